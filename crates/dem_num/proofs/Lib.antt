@@ -1,0 +1,4 @@
+pub mod ProductBounds
+pub mod RootFacts
+pub mod Sizes
+pub mod VectorSizes

@@ -1,0 +1,36 @@
+//! Quotients rounded toward zero, floors of shifts, and clamps.
+
+ghost use Rattle.std.specs.Prelude.{◌≡◌, pos, ◌+◌, ◌-◌, ◌*◌, ◌/◌, ◌^◌, ◌<◌, ◌≤◌, ◌<ℤ◌, ◌≤ℤ◌, min, unsigned_abs};
+ghost use Rattle.dem_num.specs.Numbers.{quotient, shifted, clamped};
+
+use crate::operators::negated;
+
+/// The quotient, rounded toward zero.
+#[tactic(auto, unfolding(crate::specs::Numbers::quotient))]
+pub fn tdiv(x: i128, y: i128) -> i128
+    requires { pos 0 <ℤ y }
+    ensures value { result ≡ quotient x y }
+    ensures size { unsigned_abs result ≡ unsigned_abs x / unsigned_abs y }
+{
+    x / y
+}
+
+/// The floor of `x / 2^k`.
+#[tactic(auto, unfolding(crate::specs::Numbers::shifted))]
+pub fn sh(x: i128, k: u32) -> i128
+    requires { k ≤ 126 }
+    ensures value { result ≡ shifted x k }
+    ensures size { unsigned_abs result ≤ (unsigned_abs x + 2 ^ k - 1) / 2 ^ k }
+{
+    x >> k
+}
+
+/// The number from `-m` to `m` that is nearest to `x`.
+#[tactic(auto, unfolding(crate::specs::Numbers::clamped, crate::specs::Numbers::opposite))]
+pub fn cl(x: i128, m: i128) -> i128
+    requires { pos 0 ≤ℤ m }
+    ensures value { result ≡ clamped x m }
+    ensures size { unsigned_abs result ≡ min (unsigned_abs x) (unsigned_abs m) }
+{
+    negated(m).max(x.min(m))
+}

@@ -2,3 +2,11 @@ pub mod SceneValue
 pub mod Position
 pub mod Spheres
 pub mod Sound
+pub mod Pairs
+pub mod Touch
+pub mod Centres
+pub mod Mixing
+pub mod Law
+pub mod Advance
+pub mod Step
+pub mod Plain

@@ -48,3 +48,7 @@ pub const MAX_SPHERES: usize = 32_768;
 pub const MIN_NORM2: u64 = 288_230_376_151_711_744;
 /// The greatest squared length of a quaternion.
 pub const MAX_NORM2: u64 = 4_611_686_018_427_387_904;
+/// One, as a component of a normal or of a matrix.
+pub const UNIT: u64 = 1_073_741_824;
+/// The greatest overlap with a wall, in u.
+pub const MAX_OVERLAP: u64 = 134_217_728;

@@ -19,14 +19,18 @@ pub record Sphere : Type 0 where
 unfoldable pub balls_of : List Template → ℕ → List Ball
 balls_of templates t = option_map_or (λ (x : Template). x.balls) (slice_get templates t) []
 
--- the spheres of one clump, in the template's order
-unfoldable pub spheres_of_clump : List Template → ℕ → Clump → List Sphere
-spheres_of_clump templates k c = map (λ (b : Ball). record { clump = k; ball = b }) (balls_of templates c.t)
+-- a sphere of a clump
+abbrev pub sphere_of : ℕ → Ball → Sphere
+sphere_of k b = record { clump = k; ball = b }
+
+-- the spheres of one clump, by its number and that of its template, in the template's order
+unfoldable pub spheres_of_clump : List Template → ℕ → ℕ → List Sphere
+spheres_of_clump templates k t = map (sphere_of k) (balls_of templates t)
 
 -- the spheres of the clumps from number k on, in order
 unfoldable pub spheres_from : List Template → ℕ → List Clump → List Sphere
 spheres_from templates k [] = []
-spheres_from templates k (c ∷ cs) = spheres_of_clump templates k c ++ spheres_from templates (k + 1) cs
+spheres_from templates k (c ∷ cs) = spheres_of_clump templates k c.t ++ spheres_from templates (k + 1) cs
 
 -- all spheres of a scene, in the order of their numbers
 unfoldable pub spheres_of : SceneValue → List Sphere

@@ -1,0 +1,20 @@
+-- Bodies that are sound for their clumps, and how far a sphere may move in one step.
+use Rattle.std.specs.Prelude.{ℕ, ◌+◌, ◌-◌, ◌/◌, ◌<◌, ◌≡◌, List, length}
+use Rattle.dem_num.specs.Vectors.{widened}
+use Rattle.dem_num.specs.Rotations.{arm_of, swing_limit_of}
+use Rattle.dem_model.specs.SceneValue.{SceneValue}
+use Rattle.dem_model.specs.Centres.{body_at}
+use Rattle.dem_model.specs.Sound.{IsBodyOf}
+use Rattle.dem_model.specs.Step.{clump_at}
+use Rattle.dem_model.specs.declared.limits.TheConstants.{VOXEL}
+use Rattle.dem_model.specs.declared.shape.Ball.{Ball}
+use Rattle.dem_model.specs.declared.state.Body.{Body}
+
+-- there is a body for each clump, and it is sound for its clump
+pub record AreSound (s : SceneValue) (bodies : List Body) : Type 0 where
+  pub count : length bodies ≡ length s.clumps
+  pub each : (k : ℕ) → k < length s.clumps → IsBodyOf s (clump_at s k) (body_at bodies k)
+
+-- how far a sphere may move in one step, per axis: with its clump at the speed limit, and by the swing of its arm
+unfoldable pub per_step_of : SceneValue → Ball → ℕ
+per_step_of s b = (s.speed + (VOXEL - 1)) / VOXEL + swing_limit_of s.spin (arm_of (widened b.at))

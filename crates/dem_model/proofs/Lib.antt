@@ -1,1 +1,2 @@
 pub mod SphereFacts
+pub mod SoundFacts

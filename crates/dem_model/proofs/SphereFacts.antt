@@ -1,7 +1,7 @@
 -- The table of spheres, clump by clump.
-use Rattle.std.proofs.Common.{◌≡◌, ℕ, ◌+◌, ◌<◌, ◌≤◌, List, [], ◌∷◌, ◌++◌, length, map, refl, sym, ap, ◌∙◌, arith, zero-add, add_assoc, add-zero, add-one}
+use Rattle.std.proofs.Common.{◌≡◌, ℕ, ◌+◌, List, [], ◌∷◌, ◌++◌, length, sym, ap, ◌∙◌, arith, add-zero}
 use Rattle.std.proofs.lemmas.List.{append-nil, append_assoc}
-use Rattle.dem_model.specs.Spheres.{Sphere, balls_of, spheres_of_clump, spheres_from}
+use Rattle.dem_model.specs.Spheres.{spheres_of_clump, spheres_from}
 use Rattle.dem_model.specs.declared.shape.Template.{Template}
 use Rattle.dem_model.specs.declared.state.Clump.{Clump}
 

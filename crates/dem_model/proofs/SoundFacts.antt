@@ -1,0 +1,85 @@
+-- What a sound scene says of each of its spheres.
+use Rattle.std.proofs.Common.{◌≡◌, ℕ, suc, ◌+◌, ◌<◌, ◌≤◌, List, [], ◌∷◌, length, get_or, refl, arith, subst, add-zero, zero-add, inl, inr, Some}
+use Rattle.std.specs.Prelude.{All, IsTrue, slice_get}
+use Rattle.std.proofs.lemmas.Option.{slice_get_cases}
+use Rattle.std.proofs.lemmas.List.Elements.{All-append, All-map, All-nil}
+use Rattle.dem_model.specs.SceneValue.{SceneValue}
+use Rattle.dem_model.specs.Position.{in_box}
+use Rattle.dem_model.specs.Spheres.{Sphere, sphere_of, balls_of, spheres_of_clump, spheres_from, spheres_of, centre_of}
+use Rattle.dem_model.specs.Sound.{IsSound, IsBall, IsTemplate, IsClump, IsBodyOf}
+use Rattle.dem_model.specs.Pairs.{sphere_at, sphere_count, no_sphere}
+use Rattle.dem_model.specs.Step.{clump_at, no_clump}
+use Rattle.dem_model.specs.declared.shape.Template.{Template}
+use Rattle.dem_model.specs.declared.state.Body.{Body}
+use Rattle.dem_model.specs.declared.state.Clump.{Clump}
+
+-- a sphere's clump is there, its ball is within its ranges, and its centre is in the box where its clump's body is sound
+pub record IsSphere (s : SceneValue) (x : Sphere) : Type 0 where
+  pub clump : x.clump < length s.clumps
+  pub ball : IsBall (length s.materials) x.ball
+  pub centre : (b : Body) → IsBodyOf s (clump_at s x.clump) b → IsTrue (in_box s (centre_of b x.ball))
+
+-- a template that is there: its spheres, mass and moments are those that its number gives
+pub record HasTemplate (s : SceneValue) (t : ℕ) : Type 0 where
+  pub it : Template
+  pub is_it : slice_get s.templates t ≡ Some it
+  pub sound : IsTemplate (length s.materials) it
+
+-- a number below the count names a template
+pub has_template : (s : SceneValue) (t : ℕ) → IsSound s → t < length s.templates → HasTemplate s t
+has_template s t sound there =
+    elim (slice_get_cases s.templates t).1 [
+      | inl w ↦ record { it = w.0; is_it = w.2; sound = subst (λ y. IsTemplate (length s.materials) y) w.3 (sound.templates t w.0 there) }
+      | inr w ↦ absurd (omega arith)
+    ]
+
+-- the spheres of a template that is there are within their ranges
+pub balls_of-sound : (s : SceneValue) (t : ℕ) → IsSound s → t < length s.templates → All (IsBall (length s.materials)) (balls_of s.templates t)
+unfolding balls_of
+balls_of-sound s t sound there = let h = has_template s t sound there in rw h.is_it h.sound.balls
+
+-- a template that is there has a few spheres
+pub balls_of-count : (s : SceneValue) (t : ℕ) → IsSound s → t < length s.templates → length (balls_of s.templates t) ≤ 16
+unfolding balls_of
+balls_of-count s t sound there = let h = has_template s t sound there in rw h.is_it h.sound.count.le_high
+
+-- a clump that is there is sound
+pub clump_at-sound : (s : SceneValue) (k : ℕ) → IsSound s → k < length s.clumps → IsClump s (clump_at s k)
+unfolding clump_at
+clump_at-sound s k sound there = sound.clumps k no_clump there
+
+-- the spheres of one clump are spheres of the scene
+pub spheres_of_clump-sound : (s : SceneValue) (k : ℕ) → IsSound s → k < length s.clumps →
+    All (IsSphere s) (spheres_of_clump s.templates k (clump_at s k).t)
+unfolding spheres_of_clump
+spheres_of_clump-sound s k sound there =
+    let c = clump_at-sound s k sound there in
+    All-map (IsSphere s) (sphere_of k) (balls_of s.templates (clump_at s k).t)
+    (λ j d lt. record {
+      clump = there;
+      ball = balls_of-sound s (clump_at s k).t sound c.t j d lt;
+      centre = λ b h. h.centres j d lt;
+    })
+
+-- the same for the clumps from number k on
+spheres_from-sound : (s : SceneValue) (k : ℕ) (cs : List Clump) → IsSound s → k + length cs ≤ length s.clumps →
+    ((j : ℕ) → j < length cs → clump_at s (k + j) ≡ get_or cs j no_clump) →
+    All (IsSphere s) (spheres_from s.templates k cs)
+unfolding spheres_from
+spheres_from-sound s k [] sound fits same = All-nil (IsSphere s)
+spheres_from-sound s k (c ∷ cs) sound fits same =
+    let first : clump_at s k ≡ c = rw add-zero at (same 0 (omega arith)) in
+    All-append (IsSphere s) (spheres_of_clump s.templates k c.t) (spheres_from s.templates (k + 1) cs)
+    (subst (λ x. All (IsSphere s) (spheres_of_clump s.templates k x.t)) first (spheres_of_clump-sound s k sound (omega arith)))
+    (spheres_from-sound s (k + 1) cs sound (omega arith)
+    (λ j lt. let e : k + suc j ≡ (k + 1) + j = omega arith in subst (λ n. clump_at s n ≡ get_or cs j no_clump) e (same (suc j) (omega arith))))
+
+-- every sphere of a sound scene is within its ranges
+pub spheres_of-sound : (s : SceneValue) → IsSound s → All (IsSphere s) (spheres_of s)
+unfolding spheres_of clump_at
+spheres_of-sound s sound = spheres_from-sound s 0 s.clumps sound (omega arith) (λ j lt. rw zero-add refl)
+
+-- a sphere by its number is within its ranges
+pub sphere_at-sound : (s : SceneValue) (i : ℕ) → IsSound s → i < sphere_count s → IsSphere s (sphere_at s i)
+unfolding sphere_at sphere_count
+sphere_at-sound s i sound there = spheres_of-sound s sound i no_sphere there

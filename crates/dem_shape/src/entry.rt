@@ -1,0 +1,34 @@
+//! What the table keeps of one sphere.
+
+ghost use Rattle.std.specs.Prelude.{◌≡◌, ◌≤◌};
+ghost use Rattle.dem_model.specs.Sound.{IsBall};
+ghost use Rattle.dem_model.specs.Spheres.{sphere_of};
+ghost use Rattle.dem_shape.specs.Table.{entry_of};
+
+use dem_model::{Ball, Scene, VOXEL};
+use dem_turn::{arm, swing_limit};
+
+/// A sphere: its clump, what its template says of it, its arm and its movement bound, in u.
+#[derive(Clone, Copy)]
+pub struct Entry {
+    pub clump: u32,
+    pub ball: Ball,
+    pub arm: u64,
+    pub per_step: u64,
+}
+
+/// What the table keeps of a sphere of this clump.
+#[tactic(auto, unfolding(dem_model::specs::Motion::per_step_of))]
+pub fn entry(scene: &Scene, clump: u32, ball: Ball) -> Entry
+    requires { IsBall (length scene.now.materials) ball }
+    ensures { result ≡ entry_of scene.now (sphere_of clump ball) }
+{
+    let arm = arm(ball.at);
+    let per_step = scene.speed.div_ceil(VOXEL) + swing_limit(scene.spin, arm);
+    Entry {
+        clump,
+        ball,
+        arm,
+        per_step,
+    }
+}

@@ -1,0 +1,114 @@
+//! The table of spheres of a scene, in the order of their numbers.
+
+ghost use Rattle.std.specs.Prelude.{◌≡◌, ◌<◌, ◌≤◌, ◌++◌, length, map, OnOk, IfOk};
+ghost use Rattle.dem_num.specs.Vectors.{widened};
+ghost use Rattle.dem_num.specs.Rotations.{arm_of};
+ghost use Rattle.dem_model.specs.Motion.{per_step_of};
+ghost use Rattle.dem_model.specs.Pairs.{sphere_count, sphere_at};
+ghost use Rattle.dem_model.specs.Spheres.{spheres_of_clump};
+ghost use Rattle.dem_shape.specs.Table.{entry_of};
+
+use crate::entry::{Entry, entry};
+use dem_model::{Ball, OutOfMemory, Scene};
+use std::alloc::Global;
+use std::marker::Model;
+
+/// The spheres of a scene, numbered through all clumps in order, and inside a clump in the template's order.
+#[derive(Drop)]
+pub struct Shapes<'s> {
+    scene: &'s Scene,
+    entries: Vec<Entry>,
+}
+
+impl<'s> Model for Shapes<'s> {
+    ghost use Rattle.std.specs.Prelude.{◌≡◌, map};
+    ghost use Rattle.dem_model.specs.SceneValue.{SceneValue};
+    ghost use Rattle.dem_model.specs.Spheres.{spheres_of};
+    ghost use Rattle.dem_shape.specs.Table.{entry_of};
+
+    ghost Value = { SceneValue };
+
+    ghost view = { λ a. a.scene.now };
+
+    ghost invariant = { λ a. a.entries.items ≡ map (entry_of a.scene.now) (spheres_of a.scene.now) };
+}
+
+impl<'s> Shapes<'s> {
+    /// The table of a scene.
+    pub fn new(alloc: Global, scene: &'s Scene) -> Result<Shapes<'s>, OutOfMemory>
+        ensures { IfOk result (λ x. x ≡ scene.now) }
+    {
+        let mut entries = Vec::new(alloc);
+        for (k, clump) in scene.clumps.as_slice().iter().enumerate() {
+            add_clump(&mut entries, scene, k as u32, clump.t)?;
+        }
+        Ok(Shapes { scene, entries })
+    }
+
+    /// The scene.
+    pub fn scene(&self) -> &Scene
+        ensures { result.now ≡ self.now }
+    {
+        self.scene
+    }
+
+    /// The number of spheres.
+    pub fn spheres(&self) -> u32
+        ensures { result ≡ sphere_count self.now }
+    {
+        self.entries.len() as u32
+    }
+
+    /// The number of walls.
+    pub fn walls(&self) -> u32
+        ensures { result ≡ length self.now.walls }
+    {
+        self.scene.walls.len() as u32
+    }
+
+    /// The clump of a sphere.
+    pub fn clump_of(&self, s: u32) -> u32
+        requires { s < sphere_count self.now }
+        ensures value { result ≡ (sphere_at self.now s).clump }
+        ensures within { result < length self.now.clumps }
+    {
+        self.entries[s as usize].clump
+    }
+
+    /// What the template says of a sphere.
+    pub fn ball_of(&self, s: u32) -> Ball
+        requires { s < sphere_count self.now }
+        ensures { result ≡ (sphere_at self.now s).ball }
+    {
+        self.entries[s as usize].ball
+    }
+
+    /// The arm of a sphere, in u.
+    pub fn arm(&self, s: u32) -> u64
+        requires { s < sphere_count self.now }
+        ensures { result ≡ arm_of (widened (sphere_at self.now s).ball.at) }
+    {
+        self.entries[s as usize].arm
+    }
+
+    /// How far a sphere may move in one step per axis, in u: with its clump at the speed limit, and by the swing of its arm.
+    pub fn per_step(&self, s: u32) -> u64
+        requires { s < sphere_count self.now }
+        ensures { result ≡ per_step_of self.now (sphere_at self.now s).ball }
+    {
+        self.entries[s as usize].per_step
+    }
+}
+
+/// Adds the spheres of one clump to the table.
+fn add_clump(entries: &mut Vec<Entry>, scene: &Scene, clump: u32, t: u32) -> Result<(), OutOfMemory>
+    requires { t < length scene.now.templates }
+    ensures { OnOk result (entries.new.items ≡ entries.old.items ++ map (entry_of scene.now) (spheres_of_clump scene.now.templates clump t)) }
+{
+    for ball in scene.templates.get(t as usize).balls.as_slice() {
+        if entries.push(entry(scene, clump, *ball)).is_err() {
+            return Err(OutOfMemory);
+        }
+    }
+    Ok(())
+}

@@ -1,0 +1,4 @@
+pub mod SceneValue
+pub mod Position
+pub mod Spheres
+pub mod Sound

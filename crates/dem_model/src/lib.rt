@@ -1,0 +1,28 @@
+//! The plain types of the engine, and the definitions of all that it does.
+//!
+//! Types: scenes and their parts, bodies, states, ends, faults of a scene text, the contact law's sides, a list.
+//! Means: `specs` in the order in which a step runs it: position, pairs, centres, touch, law, step, ends, plain run,
+//! frames, output; and the reading of a scene text. Callers rest on: a Scene keeps its ranges; a List is seen as a list.
+//! Takes memory: `List::push`. Not here: any computing (the crates above), numbers and rotations (dem_num).
+#![tactic(auto)]
+
+mod fault;
+mod law;
+mod limits;
+mod list;
+mod scene;
+mod shape;
+mod state;
+
+pub use fault::{Built, Name, SceneFault, Spot};
+pub use law::{Law, Push, Side, Touch};
+pub use limits::{
+    MAX_BALLS, MAX_CLUMPS, MAX_CYLINDER, MAX_DIRECTION, MAX_GRAVITY, MAX_MASS, MAX_MATERIALS,
+    MAX_MOMENT, MAX_NORM2, MAX_OFFSET, MAX_POINT, MAX_RADIUS, MAX_RATIO, MAX_SPEED, MAX_SPHERES,
+    MAX_SPIN, MAX_STEPS, MAX_STIFFNESS, MAX_TEMPLATES, MAX_TEXT, MAX_VOXELS, MAX_WALLS, MIN_NORM2,
+    VOXEL,
+};
+pub use list::{List, OutOfMemory};
+pub use scene::Scene;
+pub use shape::{Axis, Ball, Form, Material, Template, Wall};
+pub use state::{Body, Clump, End, EndKind, Held, Last, Pair, State, TakenRow, Turn};

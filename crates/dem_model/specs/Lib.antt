@@ -2,3 +2,9 @@ pub mod SceneValue
 pub mod Position
 pub mod Spheres
 pub mod Sound
+pub mod ReadingNames
+pub mod ReadingFaults
+pub mod Reading
+pub mod ReadingVectors
+pub mod ReadingKinds
+pub mod ReadingScene

@@ -11,3 +11,9 @@ pub mod Advance
 pub mod Step
 pub mod Plain
 pub mod Motion
+pub mod ReadingNames
+pub mod ReadingFaults
+pub mod Reading
+pub mod ReadingVectors
+pub mod ReadingKinds
+pub mod ReadingScene

@@ -74,17 +74,6 @@ pub enum SceneFault {
     OverLimit { clump: u32 },
     /// A clump's position or a centre of one of its spheres lies outside the box.
     OutsideBox { clump: u32 },
-    /// The scene has a form that isn't built yet.
-    NotBuilt { form: Built },
     /// Memory was refused.
     OutOfMemory,
-}
-
-/// A form of scenes that isn't built yet.
-#[derive(Clone, Copy, PartialEq, Debug)]
-pub enum Built {
-    Walls,
-    Clumps,
-    Spin,
-    Friction,
 }

@@ -14,7 +14,7 @@ mod scene;
 mod shape;
 mod state;
 
-pub use fault::{Built, Name, SceneFault, Spot};
+pub use fault::{Name, SceneFault, Spot};
 pub use law::{Law, Push, Side, Touch};
 pub use limits::{
     MAX_BALLS, MAX_CLUMPS, MAX_CYLINDER, MAX_DIRECTION, MAX_GRAVITY, MAX_MASS, MAX_MATERIALS,

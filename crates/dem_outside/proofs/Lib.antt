@@ -1,0 +1,4 @@
+pub mod FaultFacts
+pub mod Fronts
+pub mod PutFacts
+pub mod ReadFacts

@@ -10,3 +10,4 @@ pub mod Law
 pub mod Advance
 pub mod Step
 pub mod Plain
+pub mod Frames

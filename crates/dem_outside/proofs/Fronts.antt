@@ -31,23 +31,3 @@ AppendsFront-kept old mid new text front kept = (front.0, front.1, front.2, Appe
 -- the first n bytes of a piece are in front of it
 pub AppendsFront-take : (old new piece : List ℕ) (n : ℕ) → new ≡ old ++ take n piece → AppendsFront (Some old) (Some new) piece
 AppendsFront-take old new piece n same = (take n piece, drop n piece, take-append-drop n piece, same)
-
--- ---- a text of which a rest is still to come
-
--- all of the text but this rest was appended
-pub record AppendsBefore (old new : Option (List ℕ)) (rest text : List ℕ) : Type 0 where
-  pub front : List ℕ
-  pub whole : front ++ rest ≡ text
-  pub appended : Appends old new front
-
-pub AppendsBefore-start : (old : Option (List ℕ)) (text : List ℕ) → AppendsBefore old old text text
-AppendsBefore-start old text = record { front = []; whole = refl; appended = Appends-nil old }
-
--- the first n bytes of the rest were appended too
-pub AppendsBefore-more : (old mid new : Option (List ℕ)) (rest text : List ℕ) (n : ℕ)
-    → AppendsBefore old mid rest text → Appends mid new (take n rest) → AppendsBefore old new (drop n rest) text
-AppendsBefore-more old mid new rest text n before more = record {
-  front = before.front ++ take n rest;
-  whole = append_assoc before.front (take n rest) (drop n rest) ∙ ap (λ l. before.front ++ l) (take-append-drop n rest) ∙ before.whole;
-  appended = Appends-trans old mid new before.front (take n rest) before.appended more;
-}

@@ -17,3 +17,4 @@ pub mod Reading
 pub mod ReadingVectors
 pub mod ReadingKinds
 pub mod ReadingScene
+pub mod Frames

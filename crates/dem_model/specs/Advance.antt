@@ -10,16 +10,12 @@ use Rattle.dem_num.specs.Rotations.{matrix_of, turned_of, turned_back_by, turn_s
 use Rattle.dem_model.specs.SceneValue.{SceneValue}
 use Rattle.dem_model.specs.Position.{in_box}
 use Rattle.dem_model.specs.Spheres.{balls_of, centre_of}
+use Rattle.dem_model.specs.declared.law.Load.{Load}
 use Rattle.dem_model.specs.declared.shape.Ball.{Ball}
 use Rattle.dem_model.specs.declared.shape.Template.{Template}
 use Rattle.dem_model.specs.declared.state.Body.{Body}
 use Rattle.dem_model.specs.declared.state.EndKind.{EndKind}
 use Rattle.dem_model.specs.declared.state.EndKind.TheVariants.{Speed, Spin, Domain, Swing}
-
--- what a clump feels in a step: the sums of its forces and of its torques
-pub record Load : Type 0 where
-  pub force : Wide3
-  pub torque : Wide3
 
 -- the mass of a template, by its number
 unfoldable pub mass_of : List Template → ℕ → ℕ

@@ -18,3 +18,4 @@ pub mod ReadingVectors
 pub mod ReadingKinds
 pub mod ReadingScene
 pub mod Frames
+pub mod Output

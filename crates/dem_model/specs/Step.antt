@@ -11,8 +11,9 @@ use Rattle.dem_model.specs.Pairs.{sphere_count, sphere_at, wall_at, all_pairs}
 use Rattle.dem_model.specs.Centres.{body_at, centres_of, touch_of}
 use Rattle.dem_model.specs.Mixing.{mixed_of}
 use Rattle.dem_model.specs.Law.{contact_of}
-use Rattle.dem_model.specs.Advance.{Load, mass_of, advance_of}
+use Rattle.dem_model.specs.Advance.{mass_of, advance_of}
 use Rattle.dem_model.specs.declared.law.Law.{Law}
+use Rattle.dem_model.specs.declared.law.Load.{Load}
 use Rattle.dem_model.specs.declared.law.Push.{Push}
 use Rattle.dem_model.specs.declared.law.Side.{Side}
 use Rattle.dem_model.specs.declared.law.Touch.{Touch}

@@ -38,3 +38,10 @@ pub struct Push {
     pub torque_b: Wide3,
     pub h: Vec3,
 }
+
+/// What a clump feels in a step: the sums of its forces and of its torques.
+#[derive(Clone, Copy, PartialEq, Debug)]
+pub struct Load {
+    pub force: Wide3,
+    pub torque: Wide3,
+}

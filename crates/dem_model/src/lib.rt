@@ -13,9 +13,10 @@ mod list;
 mod scene;
 mod shape;
 mod state;
+mod steps;
 
 pub use fault::{Name, SceneFault, Spot};
-pub use law::{Law, Push, Side, Touch};
+pub use law::{Law, Load, Push, Side, Touch};
 pub use limits::{
     MAX_BALLS, MAX_CLUMPS, MAX_CYLINDER, MAX_DIRECTION, MAX_GRAVITY, MAX_MASS, MAX_MATERIALS,
     MAX_MOMENT, MAX_NORM2, MAX_OFFSET, MAX_OVERLAP, MAX_POINT, MAX_RADIUS, MAX_RATIO, MAX_SPEED,
@@ -25,4 +26,5 @@ pub use limits::{
 pub use list::{List, OutOfMemory};
 pub use scene::Scene;
 pub use shape::{Axis, Ball, Form, Material, Template, Wall};
+pub use steps::Steps;
 pub use state::{Body, Clump, End, EndKind, Held, Last, Pair, State, TakenRow, Turn};

@@ -1,2 +1,4 @@
 pub mod SphereFacts
 pub mod SoundFacts
+pub mod PairFacts
+pub mod CountFacts

@@ -38,10 +38,14 @@ pub balls_of-sound : (s : SceneValue) (t : ℕ) → IsSound s → t < length s.t
 unfolding balls_of
 balls_of-sound s t sound there = let h = has_template s t sound there in rw h.is_it h.sound.balls
 
--- a template that is there has a few spheres
-pub balls_of-count : (s : SceneValue) (t : ℕ) → IsSound s → t < length s.templates → length (balls_of s.templates t) ≤ 16
+-- a template has a few spheres, or its number names none
+pub balls_of-count : (s : SceneValue) (t : ℕ) → IsSound s → length (balls_of s.templates t) ≤ 16
 unfolding balls_of
-balls_of-count s t sound there = let h = has_template s t sound there in rw h.is_it h.sound.count.le_high
+balls_of-count s t sound =
+    elim (slice_get_cases s.templates t).1 [
+      | inl w ↦ let h = has_template s t sound w.1 in rw h.is_it h.sound.count.le_high
+      | inr w ↦ rw w.1 (omega arith)
+    ]
 
 -- a clump that is there is sound
 pub clump_at-sound : (s : SceneValue) (k : ℕ) → IsSound s → k < length s.clumps → IsClump s (clump_at s k)

@@ -7,7 +7,6 @@ use Rattle.dem_model.specs.declared.state.Body.{Body}
 use Rattle.dem_model.specs.declared.state.Pair.{Pair}
 use Rattle.dem_model.specs.declared.state.Held.{Held}
 use Rattle.dem_model.specs.declared.state.State.{State}
-use Rattle.dem_model.specs.declared.state.End.{End}
 use Rattle.dem_model.specs.declared.state.EndKind.{EndKind}
 use Rattle.dem_model.specs.declared.state.EndKind.TheVariants.{Speed, Spin, Domain, Swing}
 use Rattle.dem_model.specs.declared.state.Last.{Last}

@@ -22,6 +22,10 @@ opposite x = neg_ℤ x
 abbrev pub AtMost : ℤ → ℕ → Type 0
 AtMost z m = unsigned_abs z ≤ m
 
+-- the square of a number
+abbrev pub square_of : ℤ → ℕ
+square_of x = unsigned_abs x * unsigned_abs x
+
 -- s is the greatest whole number whose square is at most x
 pub record IsRoot (x s : ℕ) : Type 0 where
   pub square_le : s * s ≤ x

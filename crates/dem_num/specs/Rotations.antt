@@ -1,14 +1,25 @@
 -- Rotations by a quaternion of any length: the matrix, turned vectors, the quaternion step, the arm and the swing limit.
-use Rattle.std.specs.Prelude.{ℕ, ℤ, pos, ◌+◌, ◌*◌, ◌/◌, ◌^◌, ◌+ℤ◌, ◌-ℤ◌, ◌*ℤ◌, unsigned_abs, if◌then◌else◌}
+use Rattle.std.specs.Prelude.{ℕ, ℤ, pos, ◌+◌, ◌*◌, ◌/◌, ◌^◌, ◌≤◌, ◌+ℤ◌, ◌-ℤ◌, ◌*ℤ◌, if◌then◌else◌}
 use Rattle.dem_num.specs.declared.vector.Wide3.{Wide3}
 use Rattle.dem_num.specs.declared.vector.Quat.{Quat}
 use Rattle.dem_num.specs.declared.vector.Rows.{Rows}
-use Rattle.dem_num.specs.Numbers.{quotient, opposite, root_of}
-use Rattle.dem_num.specs.Vectors.{widened, shifted_each, dot_of, norm2_of, is_zero}
+use Rattle.dem_num.specs.Numbers.{quotient, opposite, square_of, root_of}
+use Rattle.dem_num.specs.Vectors.{widened, shifted_each, dot_of, norm2_of, is_zero, Within}
 
 -- the square of a quaternion's length
 unfoldable pub quat_norm2_of : Quat → ℕ
-quat_norm2_of q = unsigned_abs q.a * unsigned_abs q.a + unsigned_abs q.b * unsigned_abs q.b + unsigned_abs q.c * unsigned_abs q.c + unsigned_abs q.d * unsigned_abs q.d
+quat_norm2_of q = square_of q.a + square_of q.b + square_of q.c + square_of q.d
+
+-- a quaternion that stands for a rotation: its length is from a half to twice that of one
+pub record IsOrientation (q : Quat) : Type 0 where
+  pub long_enough : 2 ^ 58 ≤ quat_norm2_of q
+  pub short_enough : quat_norm2_of q ≤ 2 ^ 62
+
+-- each entry of the matrix is at most m in size
+pub record EntriesWithin (rows : Rows) (m : ℕ) : Type 0 where
+  pub x : Within (widened rows.x) m
+  pub y : Within (widened rows.y) m
+  pub z : Within (widened rows.z) m
 
 -- an entry on the diagonal: the real part and its own axis less the two others, squared
 unfoldable pub axial : ℤ → ℤ → ℤ → ℤ → ℤ

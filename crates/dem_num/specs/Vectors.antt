@@ -2,7 +2,7 @@
 use Rattle.std.specs.Prelude.{ℕ, ℤ, pos, ◌+◌, ◌*◌, ◌+ℤ◌, ◌-ℤ◌, ◌*ℤ◌, unsigned_abs, Bool, ◌&&◌, ◌==◌}
 use Rattle.dem_num.specs.declared.vector.Vec3.{Vec3}
 use Rattle.dem_num.specs.declared.vector.Wide3.{Wide3}
-use Rattle.dem_num.specs.Numbers.{quotient, shifted, clamped, opposite, AtMost}
+use Rattle.dem_num.specs.Numbers.{quotient, shifted, clamped, opposite, square_of, AtMost}
 
 -- the same vector, with room for larger components
 abbrev pub widened : Vec3 → Wide3
@@ -74,7 +74,7 @@ cross_of a b = record {
 
 -- the square of the length: the sum of the squares of the components
 unfoldable pub norm2_of : Wide3 → ℕ
-norm2_of a = unsigned_abs a.x * unsigned_abs a.x + unsigned_abs a.y * unsigned_abs a.y + unsigned_abs a.z * unsigned_abs a.z
+norm2_of a = square_of a.x + square_of a.y + square_of a.z
 
 -- whether each component is zero
 abbrev pub is_zero : Wide3 → Bool

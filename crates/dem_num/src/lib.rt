@@ -16,7 +16,7 @@ mod whole_root;
 
 pub use axes::{add3, cl3, narrow3, negated3, scale3, sh3, sub3, tdiv3, widen};
 pub use operators::{add, mul, narrow, negated, sub};
-pub use products::{cross, dot, norm2};
+pub use products::{cross, dot, norm2, quat_norm2};
 pub use rounded::{cl, sh, tdiv};
 pub use vector::{Quat, Rows, Vec3, Wide3};
 pub use whole_root::root;

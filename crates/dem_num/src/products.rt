@@ -1,7 +1,8 @@
-//! Products of vectors: dot, cross and the square of the length.
+//! Products of vectors: dot, cross and squares of lengths.
 
 ghost use Rattle.std.specs.Prelude.{◌≡◌, ◌+◌, ◌*◌, ◌^◌, ◌<◌, ◌≤◌, ◌*ℤ◌, unsigned_abs};
-ghost use Rattle.dem_num.specs.Numbers.{AtMost};
+ghost use Rattle.dem_num.specs.Numbers.{AtMost, square_of};
+ghost use Rattle.dem_num.specs.Rotations.{quat_norm2_of};
 ghost use Rattle.dem_num.specs.Vectors.{
   widened,
   Within,
@@ -13,7 +14,7 @@ ghost use Rattle.dem_num.specs.Vectors.{
 };
 
 use crate::operators::{add, mul, sub};
-use crate::vector::{Vec3, Wide3};
+use crate::vector::{Quat, Vec3, Wide3};
 
 /// The sum of the products, axis by axis.
 #[tactic(auto, unfolding(crate::specs::Vectors::dot_of, crate::specs::Vectors::reach_of))]
@@ -77,4 +78,21 @@ pub fn norm2(b: Wide3) -> u128
     let y = b.y.unsigned_abs();
     let z = b.z.unsigned_abs();
     x * x + y * y + z * z
+}
+
+/// The square of a quaternion's length.
+#[tactic(auto, unfolding(crate::specs::Rotations::quat_norm2_of))]
+pub fn quat_norm2(q: Quat) -> u128
+    requires { quat_norm2_of q < 2 ^ 128 }
+    ensures { result ≡ quat_norm2_of q }
+{
+    squared(q.a) + squared(q.b) + squared(q.c) + squared(q.d)
+}
+
+/// The square of a number of 64 bits.
+fn squared(x: i64) -> u128
+    ensures { result ≡ square_of x }
+{
+    let size = x.unsigned_abs() as u128;
+    size * size
 }

@@ -32,6 +32,15 @@ fn multiplies_vectors(rt: HostRuntime) {
         }
     );
     assert_eq!(rt; norm2(b), 77);
+    assert_eq!(rt;
+        quat_norm2(Quat {
+            a: -1,
+            b: 2,
+            c: 3,
+            d: -4
+        }),
+        30
+    );
 }
 
 #[test]

@@ -1,0 +1,17 @@
+//! Rotations by a quaternion: its matrix, vectors turned there and back, one step of spin, arms and swing limits.
+//!
+//! Means: `Rotations` of dem_num. Callers rest on: each call is its definition; entries are at most 2^30 in size;
+//! a step keeps the quaternion's length between a half and twice that of one. Takes no memory and refuses nothing.
+//! Not here: the motion of a body (dem_force).
+#![tactic(auto)]
+
+mod reach;
+mod rows;
+#[cfg(test)]
+mod tests;
+mod turning;
+
+pub use dem_num::Rows;
+pub use reach::{arm, swing_limit};
+pub use rows::matrix;
+pub use turning::{turned, turned_back};

@@ -6,18 +6,13 @@ use Rattle.std.proofs.lemmas.List.Elements.{All-append, All-map, All-nil}
 use Rattle.dem_model.specs.SceneValue.{SceneValue}
 use Rattle.dem_model.specs.Position.{in_box}
 use Rattle.dem_model.specs.Spheres.{Sphere, sphere_of, balls_of, spheres_of_clump, spheres_from, spheres_of, centre_of}
+use Rattle.dem_model.specs.Motion.{IsSphere}
 use Rattle.dem_model.specs.Sound.{IsSound, IsBall, IsTemplate, IsClump, IsBodyOf}
 use Rattle.dem_model.specs.Pairs.{sphere_at, sphere_count, no_sphere}
 use Rattle.dem_model.specs.Step.{clump_at, no_clump}
 use Rattle.dem_model.specs.declared.shape.Template.{Template}
 use Rattle.dem_model.specs.declared.state.Body.{Body}
 use Rattle.dem_model.specs.declared.state.Clump.{Clump}
-
--- a sphere's clump is there, its ball is within its ranges, and its centre is in the box where its clump's body is sound
-pub record IsSphere (s : SceneValue) (x : Sphere) : Type 0 where
-  pub clump : x.clump < length s.clumps
-  pub ball : IsBall (length s.materials) x.ball
-  pub centre : (b : Body) → IsBodyOf s (clump_at s x.clump) b → IsTrue (in_box s (centre_of b x.ball))
 
 -- a template that is there: its spheres, mass and moments are those that its number gives
 pub record HasTemplate (s : SceneValue) (t : ℕ) : Type 0 where

@@ -1,10 +1,12 @@
 -- Bodies that are sound for their clumps, and how far a sphere may move in one step.
-use Rattle.std.specs.Prelude.{ℕ, ◌+◌, ◌-◌, ◌/◌, ◌<◌, ◌≡◌, List, length}
+use Rattle.std.specs.Prelude.{ℕ, IsTrue, ◌+◌, ◌-◌, ◌/◌, ◌<◌, ◌≡◌, List, length}
 use Rattle.dem_num.specs.Vectors.{widened}
 use Rattle.dem_num.specs.Rotations.{arm_of, swing_limit_of}
 use Rattle.dem_model.specs.SceneValue.{SceneValue}
 use Rattle.dem_model.specs.Centres.{body_at}
-use Rattle.dem_model.specs.Sound.{IsBodyOf}
+use Rattle.dem_model.specs.Position.{in_box}
+use Rattle.dem_model.specs.Sound.{IsBall, IsBodyOf}
+use Rattle.dem_model.specs.Spheres.{Sphere, centre_of}
 use Rattle.dem_model.specs.Step.{clump_at}
 use Rattle.dem_model.specs.declared.limits.TheConstants.{VOXEL}
 use Rattle.dem_model.specs.declared.shape.Ball.{Ball}
@@ -18,3 +20,9 @@ pub record AreSound (s : SceneValue) (bodies : List Body) : Type 0 where
 -- how far a sphere may move in one step, per axis: with its clump at the speed limit, and by the swing of its arm
 unfoldable pub per_step_of : SceneValue → Ball → ℕ
 per_step_of s b = (s.speed + (VOXEL - 1)) / VOXEL + swing_limit_of s.spin (arm_of (widened b.at))
+
+-- a sphere's clump is there, its ball is within its ranges, and its centre is in the box where its clump's body is sound
+pub record IsSphere (s : SceneValue) (x : Sphere) : Type 0 where
+  pub clump : x.clump < length s.clumps
+  pub ball : IsBall (length s.materials) x.ball
+  pub centre : (b : Body) → IsBodyOf s (clump_at s x.clump) b → IsTrue (in_box s (centre_of b x.ball))

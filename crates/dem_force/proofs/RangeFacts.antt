@@ -1,7 +1,7 @@
 -- What the ranges of a contact's sides say together.
 use Rattle.std.proofs.Common.{arith, subst, sym, inl, inr}
 use Rattle.dem_model.specs.declared.law.Side.{Side}
-use Rattle.dem_force.specs.Ranges.{IsBounded, IsSecond, wall_side_of}
+use Rattle.dem_model.specs.Ranges.{IsBounded, IsSecond, wall_side_of}
 
 -- a wall's side is within the ranges of a side
 wall_side_of-bounded : IsBounded wall_side_of

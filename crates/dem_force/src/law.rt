@@ -3,7 +3,7 @@
 ghost use Rattle.std.specs.Prelude.{◌≡◌, ◌+◌, ◌*◌, ◌^◌, ◌<◌, ◌≤◌, unsigned_abs};
 ghost use Rattle.dem_num.specs.Vectors.{widened, Within};
 ghost use Rattle.dem_model.specs.Law.{push_with, pushed_of, contact_of};
-ghost use Rattle.dem_force.specs.Ranges.{IsLaw, IsBounded, IsFirst, IsSecond, IsTouch, IsSmall};
+ghost use Rattle.dem_model.specs.Ranges.{IsLaw, IsBounded, IsFirst, IsSecond, IsTouch, IsSmall};
 
 use crate::mixing::{effective_mass, effective_radius};
 use crate::motion::{contact_radius, motion_between};

@@ -3,7 +3,7 @@
 ghost use Rattle.std.specs.Prelude.{◌≡◌, ◌+◌, ◌*◌, ◌/◌, ◌^◌, ◌<◌, ◌≤◌};
 ghost use Rattle.dem_model.specs.Sound.{IsMaterial};
 ghost use Rattle.dem_model.specs.Mixing.{in_a_row, mixed_of, radius_between, mass_between};
-ghost use Rattle.dem_force.specs.Ranges.{IsLaw, IsFirst, IsSecond, wall_side_of};
+ghost use Rattle.dem_model.specs.Ranges.{IsLaw, IsFirst, IsSecond, wall_side_of};
 
 use dem_model::{Law, Material, Side};
 use dem_num::Vec3;

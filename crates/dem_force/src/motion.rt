@@ -15,7 +15,7 @@ ghost use Rattle.dem_model.specs.Law.{
   along_normal,
   across_normal,
 };
-ghost use Rattle.dem_force.specs.Ranges.{IsBounded};
+ghost use Rattle.dem_model.specs.Ranges.{IsBounded};
 
 use dem_model::Side;
 use dem_num::{Vec3, Wide3, add3, cross, dot, mul, root, scale3, sh, sh3, sub3, widen};

@@ -4,7 +4,7 @@ ghost use Rattle.std.specs.Prelude.{◌≡◌, pos, ◌+◌, ◌*◌, ◌^◌, �
 ghost use Rattle.std.specs.Int.{int_max, int_min};
 ghost use Rattle.dem_num.specs.Numbers.{AtMost, shifted, root_of};
 ghost use Rattle.dem_model.specs.Law.{elastic_force_of, damping_of, normal_force_of};
-ghost use Rattle.dem_force.specs.Ranges.{IsLaw};
+ghost use Rattle.dem_model.specs.Ranges.{IsLaw};
 
 use dem_model::Law;
 use dem_num::{mul, root, sh, sub};

@@ -4,7 +4,7 @@ ghost use Rattle.std.specs.Prelude.{◌≡◌, pos, ◌+◌, ◌*◌, ◌^◌, �
 ghost use Rattle.dem_num.specs.Numbers.{AtMost, shifted};
 ghost use Rattle.dem_num.specs.Vectors.{widened, Within, cross_of, opposed};
 ghost use Rattle.dem_model.specs.Law.{force_of, rolling_of, torque_a_of, torque_b_of};
-ghost use Rattle.dem_force.specs.Ranges.{IsBounded};
+ghost use Rattle.dem_model.specs.Ranges.{IsBounded};
 
 use crate::motion::{depth, vector_along};
 use dem_model::Side;

@@ -13,7 +13,7 @@ ghost use Rattle.dem_model.specs.Law.{
   friction_of,
   held_after,
 };
-ghost use Rattle.dem_force.specs.Ranges.{IsLaw};
+ghost use Rattle.dem_model.specs.Ranges.{IsLaw};
 
 use crate::motion::part_across;
 use crate::normal::{damping, damping_factor};

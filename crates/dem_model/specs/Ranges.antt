@@ -1,12 +1,14 @@
--- What the contact law is made for: the ranges of its law, of its sides, of a touch.
-use Rattle.std.specs.Prelude.{pos, ◌^◌, ◌≤◌, ◌≡◌, ◌⊎◌, true, false}
-use Rattle.dem_num.specs.Vectors.{widened, narrowed, no_vector, Within}
-use Rattle.dem_model.specs.Sound.{IsFrom, IsBetween}
+-- What touch and the contact law are made for: the ranges of walls, of laws, of sides, of a touch, of a push.
+use Rattle.std.specs.Prelude.{ℕ, pos, ◌^◌, ◌<◌, ◌≤◌, ◌≡◌, ◌⊎◌, true, false}
+use Rattle.dem_num.specs.Vectors.{widened, narrowed, no_vector, Within, is_zero}
+use Rattle.dem_model.specs.Sound.{IsFrom, IsBetween, EachBetween}
 use Rattle.dem_model.specs.declared.law.Law.{Law}
 use Rattle.dem_model.specs.declared.law.Push.{Push}
 use Rattle.dem_model.specs.declared.law.Side.{Side}
 use Rattle.dem_model.specs.declared.law.Touch.{Touch}
-use Rattle.dem_model.specs.declared.limits.TheConstants.{MAX_STIFFNESS, MAX_RATIO, MAX_OVERLAP}
+use Rattle.dem_model.specs.declared.shape.Form.{Form}
+use Rattle.dem_model.specs.declared.shape.Form.TheVariants.{Plane, Cylinder}
+use Rattle.dem_model.specs.declared.limits.TheConstants.{MAX_STIFFNESS, MAX_RATIO, MAX_OVERLAP, MAX_POINT, MAX_DIRECTION, MAX_CYLINDER}
 
 -- the numbers of a law are within the ranges of a material
 pub record IsLaw (law : Law) : Type 0 where
@@ -57,3 +59,8 @@ pub record IsSmall (p : Push) : Type 0 where
   pub torque_a : Within p.torque_a (2 ^ 93)
   pub torque_b : Within p.torque_b (2 ^ 93)
   pub h : Within (widened p.h) (2 ^ 40)
+
+-- a wall that a sphere of this radius may meet: a plane has a direction, a cylinder is wider than the sphere
+abbrev pub IsWallFor : ℕ → Form → Type 0
+IsWallFor r (Plane at dir) = EachBetween (pos 0) (pos MAX_POINT) at × Within (widened dir) MAX_DIRECTION × (is_zero (widened dir) ≡ false)
+IsWallFor r (Cylinder axis at radius) = EachBetween (pos 0) (pos MAX_POINT) at × (r < radius) × (radius ≤ MAX_CYLINDER)

@@ -1,2 +1,3 @@
 pub mod RangeFacts
 pub mod TouchFacts
+pub mod SumFacts

@@ -6,6 +6,7 @@
 #![tactic(auto)]
 
 mod law;
+mod loads;
 mod mixing;
 mod motion;
 mod normal;
@@ -17,6 +18,7 @@ mod touching;
 
 pub use dem_model::{Law, Push, Side, Touch};
 pub use law::contact;
+pub use loads::add_push;
 pub use mixing::{mix, wall_side};
 pub use sides::{law_between, push_between, side_of};
 pub use touching::touch;

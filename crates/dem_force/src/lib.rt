@@ -5,6 +5,7 @@
 //! Takes no memory and refuses nothing. Not here: which pairs touch (dem_wall), sums over contacts (dem_plain).
 #![tactic(auto)]
 
+mod advance;
 mod law;
 mod mixing;
 mod motion;

@@ -6,7 +6,12 @@ ghost use Rattle.dem_num.specs.Vectors.{widened, narrowed, clamped_each, Within}
 ghost use Rattle.dem_num.specs.Rotations.{IsOrientation};
 ghost use Rattle.dem_model.specs.Sound.{EachBetween, IsBetween};
 ghost use Rattle.dem_model.specs.Advance.{
-    velocity_after, body_torque_of, spin_component, spin_after, position_after, body_with
+  velocity_after,
+  body_torque_of,
+  spin_component,
+  spin_after,
+  position_after,
+  body_with,
 };
 
 use dem_model::{Body, MAX_MOMENT};

@@ -7,6 +7,7 @@
 
 mod advance;
 mod law;
+mod limits;
 mod mixing;
 mod motion;
 mod normal;

@@ -5,6 +5,6 @@ use Rattle.dem_force.proofs.advance.share.Goals as goal
 
 pub returns-clause-size : goal.returns-clause-size
 returns-clause-size c =
-  let less : 1 * unsigned_abs c.args.force / c.args.mass ≤ unsigned_abs c.args.force =
+    let less : 1 * unsigned_abs c.args.force / c.args.mass ≤ unsigned_abs c.args.force =
     part_le 1 c.args.mass (unsigned_abs c.args.force) (omega arith) c.requires.has_mass in
-  grind (arith, to_z-of_z)
+    grind (arith, to_z-of_z)

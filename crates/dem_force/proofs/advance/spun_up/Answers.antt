@@ -5,7 +5,7 @@ use Rattle.dem_force.proofs.advance.spun_up.Goals as goal
 
 pub returns-clause-size : goal.returns-clause-size
 returns-clause-size c =
-  let some : 1 ≤ unsigned_abs c.args.moment = grind (arith, c.requires.moment_within.low_le) in
-  let less : 1 * unsigned_abs c.args.torque / unsigned_abs c.args.moment ≤ unsigned_abs c.args.torque =
+    let some : 1 ≤ unsigned_abs c.args.moment = grind (arith, c.requires.moment_within.low_le) in
+    let less : 1 * unsigned_abs c.args.torque / unsigned_abs c.args.moment ≤ unsigned_abs c.args.torque =
     part_le 1 (unsigned_abs c.args.moment) (unsigned_abs c.args.torque) (omega arith) some in
-  grind (arith, to_z-of_z)
+    grind (arith, to_z-of_z)

@@ -1,2 +1,3 @@
+pub mod AdvanceFacts
 pub mod LimitFacts
 pub mod RangeFacts

@@ -5,7 +5,8 @@
 //! Takes no memory and refuses nothing. Not here: which pairs touch (dem_wall), sums over contacts (dem_plain).
 #![tactic(auto)]
 
-mod advance;
+mod advancing;
+mod clump;
 mod law;
 mod limits;
 mod mixing;
@@ -14,6 +15,7 @@ mod normal;
 mod push;
 mod sliding;
 
+pub use clump::advance;
 pub use dem_model::{Law, Push, Side, Touch};
 pub use law::contact;
 pub use mixing::{mix, wall_side};

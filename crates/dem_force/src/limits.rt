@@ -1,6 +1,6 @@
 //! The limits of a step: speed, spin, the box, and how far a sphere may swing.
 
-ghost use Rattle.std.specs.Prelude.{◌≡◌, ◌+◌, ◌*◌, ◌^◌, ◌<◌, ◌≤◌, ◌+ℤ◌, All, length, not, if◌then◌else◌, unsigned_abs};
+ghost use Rattle.std.specs.Prelude.{◌≡◌, ◌+◌, ◌*◌, ◌^◌, ◌<◌, ◌≤◌, ◌+ℤ◌, false, All, IfOk, length, not, if◌then◌else◌, unsigned_abs};
 ghost use Rattle.dem_num.specs.Numbers.{AtMost};
 ghost use Rattle.std.specs.List.{list_any};
 ghost use Rattle.dem_num.specs.Vectors.{widened, narrowed, difference_of, sum_of, Within};
@@ -14,10 +14,11 @@ ghost use Rattle.dem_num.specs.Rotations.{
 };
 ghost use Rattle.dem_model.specs.Advance.{is_over, leaves_box, swings, limited};
 ghost use Rattle.dem_model.specs.Position.{in_voxels, in_box};
-ghost use Rattle.dem_model.specs.Sound.{IsBall, IsBody};
+ghost use Rattle.dem_model.specs.Sound.{IsBall};
 ghost use Rattle.dem_model.specs.Spheres.{centre_of};
+ghost use Rattle.dem_force.specs.Placed.{IsInside, IsPlaced};
 
-use crate::advance::moved;
+use crate::advancing::moved;
 use dem_model::{Ball, Body, EndKind, Scene, VOXEL};
 use dem_num::{Rows, Vec3, Wide3, narrow3, sub3, widen};
 use dem_turn::{arm, matrix, swing_limit, turned};
@@ -29,6 +30,22 @@ pub fn is_over(limit: u64, a: Wide3) -> bool
 {
     let limit = limit as u128;
     limit < a.x.unsigned_abs() || limit < a.y.unsigned_abs() || limit < a.z.unsigned_abs()
+}
+
+/// Whether a velocity is over the scene's speed limit.
+fn is_too_fast(scene: &Scene, v: Wide3) -> bool
+    ensures value { result ≡ is_over scene.now.speed v }
+    ensures small { result ≡ false → Within v (2 ^ 40) }
+{
+    is_over(scene.speed, v)
+}
+
+/// Whether a spin is over the scene's spin limit.
+fn spins_too_fast(scene: &Scene, w: Wide3) -> bool
+    ensures value { result ≡ is_over scene.now.spin w }
+    ensures small { result ≡ false → Within w (2 ^ 28) }
+{
+    is_over(scene.spin, w)
 }
 
 /// Whether a component lies in the box, on an axis of `n` voxels.
@@ -166,6 +183,8 @@ fn kept_in(scene: &Scene, balls: &[Ball], old: &Body, new: Body) -> Result<Body,
     requires place { Within (widened new.p) (2 ^ 37) }
     requires offsets { All (IsBall (length scene.now.materials)) balls.now }
     ensures value { result ≡ (if leaves_box scene.now balls.now new then Err EndKind.Domain else (if swings scene.now.spin balls.now old.now new then Err EndKind.Swing else Ok new)) }
+    ensures same { IfOk result (λ b. b ≡ new) }
+    ensures inside { IfOk result (IsInside scene.now balls.now) }
 {
     let rows = matrix(new.q);
     if leaves(scene, &new, &rows, balls) {
@@ -190,11 +209,12 @@ pub fn within_limits(
     requires place { Within (widened body.now.p) (2 ^ 36) }
     requires offsets { All (IsBall (length scene.now.materials)) balls.now }
     ensures value { result ≡ limited scene.now balls.now body.now v w }
+    ensures placed { IfOk result (IsPlaced scene.now balls.now) }
 {
-    if is_over(scene.speed, v) {
+    if is_too_fast(scene, v) {
         return Err(EndKind::Speed);
     }
-    if is_over(scene.spin, w) {
+    if spins_too_fast(scene, w) {
         return Err(EndKind::Spin);
     }
     kept_in(scene, balls, body, moved(body, narrow3(v), narrow3(w)))

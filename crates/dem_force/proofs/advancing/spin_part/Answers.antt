@@ -1,7 +1,7 @@
 use Rattle.std.proofs.Common.{arith}
 use Rattle.std.proofs.lemmas.Int.{to_z-of_z}
 use Rattle.dem_model.specs.Advance.{spin_component}
-use Rattle.dem_force.proofs.advance.spin_part.Goals as goal
+use Rattle.dem_force.proofs.advancing.spin_part.Goals as goal
 
 pub returns-clause-value : goal.returns-clause-value
 unfolding spin_component

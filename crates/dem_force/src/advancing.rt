@@ -212,6 +212,8 @@ pub fn moved(body: &Body, v: Vec3, w: Vec3) -> Body
     requires spin_small { Within (widened w) (2 ^ 28) }
     ensures value { result ≡ body_with body.now (widened v) (widened w) }
     ensures place_size { Within (widened result.p) (2 ^ 37) }
+    ensures velocity { result.v ≡ v }
+    ensures spin { result.w ≡ w }
     ensures orientation { IsOrientation result.q }
 {
     Body {

@@ -1,3 +1,4 @@
 pub mod AdvanceFacts
 pub mod LimitFacts
 pub mod RangeFacts
+pub mod TouchFacts

@@ -1,7 +1,6 @@
 -- The step of a clump whose template is known.
 use Rattle.std.proofs.Common.{◌≡◌, ℕ, Some, refl}
 use Rattle.std.specs.Prelude.{slice_get, IfOk, Result, Ok, Err}
-use Rattle.dem_num.specs.declared.vector.Wide3.{Wide3}
 use Rattle.dem_model.specs.SceneValue.{SceneValue}
 use Rattle.dem_model.specs.Spheres.{balls_of}
 use Rattle.dem_model.specs.Sound.{IsBodyOf}

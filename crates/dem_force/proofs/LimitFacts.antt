@@ -1,6 +1,6 @@
 -- What a passed test of a limit says.
-use Rattle.std.proofs.Common.{◌≡◌, ℕ, ◌≤◌, Bool, true, false, List, Result, Ok, Err, get_or, arith, sym, subst, inl, inr, unsigned_abs}
-use Rattle.std.specs.Prelude.{nat_lt, ◌||◌, not, All, IsTrue, IfOk}
+use Rattle.std.proofs.Common.{◌≡◌, ℕ, ◌≤◌, Bool, false, List, Result, Ok, Err, get_or, arith, sym, subst, inl, inr, unsigned_abs}
+use Rattle.std.specs.Prelude.{nat_lt, ◌||◌, not, All, IfOk}
 use Rattle.std.specs.List.{list_any}
 use Rattle.std.proofs.lemmas.Bool.{cases_Bool, or_parts, not-false}
 use Rattle.std.proofs.lemmas.Bool.Decides.{nat_tests}
@@ -11,7 +11,7 @@ use Rattle.dem_num.specs.Rotations.{IsOrientation, quat_norm2_of}
 use Rattle.dem_num.proofs.VectorSizes.{within_wider}
 use Rattle.dem_model.specs.SceneValue.{SceneValue}
 use Rattle.dem_model.specs.Position.{in_box}
-use Rattle.dem_model.specs.Sound.{IsBody, IsFrom}
+use Rattle.dem_model.specs.Sound.{IsFrom}
 use Rattle.dem_model.specs.Spheres.{centre_of}
 use Rattle.dem_model.specs.Advance.{is_over, leaves_box}
 use Rattle.dem_model.specs.declared.limits.TheConstants.{MIN_NORM2, MAX_NORM2}

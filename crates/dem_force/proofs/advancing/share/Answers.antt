@@ -1,4 +1,4 @@
-use Rattle.std.proofs.Common.{◌*◌, ◌/◌, ◌^◌, ◌≤◌, arith, unsigned_abs}
+use Rattle.std.proofs.Common.{◌*◌, ◌/◌, ◌≤◌, arith, unsigned_abs}
 use Rattle.std.proofs.lemmas.Int.{to_z-of_z}
 use Rattle.dem_num.proofs.ProductBounds.{part_le}
 use Rattle.dem_force.proofs.advancing.share.Goals as goal

@@ -1,0 +1,6 @@
+//! The scene text: its whole reading, to a Scene or to the first fault with its place.
+#![tactic(auto)]
+
+mod number;
+mod object;
+mod vector;

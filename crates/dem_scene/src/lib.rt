@@ -1,6 +1,8 @@
 //! The scene text: its whole reading, to a Scene or to the first fault with its place.
 #![tactic(auto)]
 
+mod list;
+mod material;
 mod number;
 mod object;
 mod vector;

@@ -67,12 +67,12 @@ abbrev pub whole : Data → Option ℤ
 whole d = option_and_then as_i64 (as_number d)
 
 -- whether a number is from low to high
-abbrev pub from_to : ℕ → ℕ → ℤ → Bool
+unfoldable pub from_to : ℕ → ℕ → ℤ → Bool
 from_to low high (pos n) = nat_le low n && nat_le n high
 from_to low high (negsuc n) = false
 
 -- whether a number is at most m in size
-abbrev pub at_most : ℕ → ℤ → Bool
+unfoldable pub at_most : ℕ → ℤ → Bool
 at_most m z = nat_le (unsigned_abs z) m
 
 -- a whole number
@@ -94,7 +94,7 @@ unfoldable pub number_or : List ℕ → ℕ → ℕ → Spot → Data → Result
 number_or name low high at d = optional 0 (number_of low high at) (get name d)
 
 -- whether a number is a place of a list of that length
-abbrev pub below : ℕ → ℤ → Bool
+unfoldable pub below : ℕ → ℤ → Bool
 below count (pos n) = nat_lt n count
 below count (negsuc n) = false
 

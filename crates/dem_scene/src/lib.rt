@@ -5,4 +5,6 @@ mod list;
 mod material;
 mod number;
 mod object;
+mod template;
 mod vector;
+mod wall;

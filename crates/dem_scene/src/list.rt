@@ -27,7 +27,11 @@ pub(crate) trait ReadItem {
 }
 
 /// Reads each element.
-pub(crate) fn read_each<R: ReadItem>(alloc: Global, reader: &R, values: &[Value]) -> Result<List<R::Item>, SceneFault>
+pub(crate) fn read_each<R: ReadItem>(
+    alloc: Global,
+    reader: &R,
+    values: &[Value],
+) -> Result<List<R::Item>, SceneFault>
     requires { length values.now < 2 ^ 32 }
     ensures value { Gives result (each_from (R.gives reader.now) 0 (items_view values.now)) }
     ensures range { IfOk result (All (R.keeps reader.now)) }
@@ -43,7 +47,14 @@ pub(crate) fn read_each<R: ReadItem>(alloc: Global, reader: &R, values: &[Value]
 
 /// A list from `low` to `high` in length, and what is read of each element.
 #[tactic(auto, using(crate::proofs::Trees::counts_items), unfolding(dem_model::specs::Reading::list_of))]
-fn list_in<R: ReadItem>(alloc: Global, reader: &R, value: &Value, low: usize, high: usize, at: Spot) -> Result<List<R::Item>, SceneFault>
+fn list_in<R: ReadItem>(
+    alloc: Global,
+    reader: &R,
+    value: &Value,
+    low: usize,
+    high: usize,
+    at: Spot,
+) -> Result<List<R::Item>, SceneFault>
     requires { high < 2 ^ 32 }
     ensures value { Gives result (list_of low high at (R.gives reader.now) (view value.now)) }
     ensures range { IfOk result (All (R.keeps reader.now)) }
@@ -61,7 +72,15 @@ fn list_in<R: ReadItem>(alloc: Global, reader: &R, value: &Value, low: usize, hi
 
 /// The list of a name, and what is read of each element.
 #[tactic(auto, unfolding(dem_model::specs::Reading::list_at))]
-pub(crate) fn list<R: ReadItem>(alloc: Global, reader: &R, value: &Value, name: &str, low: usize, high: usize, at: Spot) -> Result<List<R::Item>, SceneFault>
+pub(crate) fn list<R: ReadItem>(
+    alloc: Global,
+    reader: &R,
+    value: &Value,
+    name: &str,
+    low: usize,
+    high: usize,
+    at: Spot,
+) -> Result<List<R::Item>, SceneFault>
     requires { high < 2 ^ 32 }
     ensures value { Gives result (list_at name.now low high at (R.gives reader.now) (view value.now)) }
     ensures range { IfOk result (All (R.keeps reader.now)) }
@@ -75,7 +94,14 @@ pub(crate) fn list<R: ReadItem>(alloc: Global, reader: &R, value: &Value, name: 
 
 /// The list of a name, and what is read of each element; no element where the name isn't there.
 #[tactic(auto, unfolding(dem_model::specs::Reading::list_or))]
-pub(crate) fn list_or_empty<R: ReadItem>(alloc: Global, reader: &R, value: &Value, name: &str, high: usize, at: Spot) -> Result<List<R::Item>, SceneFault>
+pub(crate) fn list_or_empty<R: ReadItem>(
+    alloc: Global,
+    reader: &R,
+    value: &Value,
+    name: &str,
+    high: usize,
+    at: Spot,
+) -> Result<List<R::Item>, SceneFault>
     requires { high < 2 ^ 32 }
     ensures value { Gives result (list_or name.now 0 high at (R.gives reader.now) (view value.now)) }
     ensures range { IfOk result (All (R.keeps reader.now)) }

@@ -43,7 +43,13 @@ fn material(value: &Value, i: u32) -> Result<Material, SceneFault>
     let bn = ratio(value, "bn", spot(Name::MaterialsBn, i, 0))?;
     let bt = ratio(value, "bt", spot(Name::MaterialsBt, i, 0))?;
     let mu = ratio(value, "mu", spot(Name::MaterialsMu, i, 0))?;
-    Ok(Material { kn: kn as u32, kt: kt as u32, bn, bt, mu })
+    Ok(Material {
+        kn: kn as u32,
+        kt: kt as u32,
+        bn,
+        bt,
+        mu,
+    })
 }
 
 /// Damping or friction.

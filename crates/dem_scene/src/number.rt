@@ -24,7 +24,7 @@ pub(crate) fn whole(value: &Value, at: Spot) -> Result<i64, SceneFault>
 }
 
 /// A whole number from `low` to `high`.
-#[tactic(auto, unfolding(dem_model::specs::Reading::number_of))]
+#[tactic(auto, unfolding(dem_model::specs::Reading::number_of, dem_model::specs::Reading::from_to))]
 fn number_in(value: &Value, low: u64, high: u64, at: Spot) -> Result<u64, SceneFault>
     ensures value { result ≡ number_of low high at (view value.now) }
     ensures range { IfOk result (IsFrom low high) }
@@ -43,7 +43,13 @@ fn number_in(value: &Value, low: u64, high: u64, at: Spot) -> Result<u64, SceneF
 
 /// The whole number of a name, from `low` to `high`.
 #[tactic(auto, unfolding(dem_model::specs::Reading::number_at))]
-pub(crate) fn number(value: &Value, name: &str, low: u64, high: u64, at: Spot) -> Result<u64, SceneFault>
+pub(crate) fn number(
+    value: &Value,
+    name: &str,
+    low: u64,
+    high: u64,
+    at: Spot,
+) -> Result<u64, SceneFault>
     ensures value { result ≡ number_at name.now low high at (view value.now) }
     ensures range { IfOk result (IsFrom low high) }
 {
@@ -55,7 +61,12 @@ pub(crate) fn number(value: &Value, name: &str, low: u64, high: u64, at: Spot) -
 
 /// The whole number of a name, from 0 to `high`, or 0 where the name isn't there.
 #[tactic(auto, unfolding(dem_model::specs::Reading::number_or))]
-pub(crate) fn number_or_zero(value: &Value, name: &str, high: u64, at: Spot) -> Result<u64, SceneFault>
+pub(crate) fn number_or_zero(
+    value: &Value,
+    name: &str,
+    high: u64,
+    at: Spot,
+) -> Result<u64, SceneFault>
     ensures value { result ≡ number_or name.now 0 high at (view value.now) }
     ensures range { IfOk result (IsFrom 0 high) }
 {
@@ -66,7 +77,7 @@ pub(crate) fn number_or_zero(value: &Value, name: &str, high: u64, at: Spot) -> 
 }
 
 /// A whole number below a count.
-#[tactic(auto, unfolding(dem_model::specs::Reading::index_of))]
+#[tactic(auto, unfolding(dem_model::specs::Reading::index_of, dem_model::specs::Reading::below))]
 fn index_in(value: &Value, count: u32, at: Spot) -> Result<u32, SceneFault>
     ensures value { result ≡ index_of count at (view value.now) }
     ensures range { IfOk result (λ n. n < count) }

@@ -35,7 +35,17 @@ fn is_scene_name(name: &str) -> bool
 {
     matches!(
         name,
-        "version" | "box" | "steps" | "every" | "speed" | "spin" | "gravity" | "materials" | "templates" | "walls" | "clumps"
+        "version"
+            | "box"
+            | "steps"
+            | "every"
+            | "speed"
+            | "spin"
+            | "gravity"
+            | "materials"
+            | "templates"
+            | "walls"
+            | "clumps"
     )
 }
 

@@ -14,7 +14,7 @@ abbrev pub with_front : {A : Type 0} → List A → Result (List A) SceneFault �
 with_front xs rest = rest >>= λ ys. Ok (xs ++ ys)
 
 -- an element that was read, and then those after it
-push_front : {A : Type 0} (found : List A) (x : A) (rest : Result (List A) SceneFault) → with_front found (rest >>= λ xs. Ok (x ∷ xs)) ≡ with_front (found ++ x ∷ []) rest
+pub push_front : {A : Type 0} (found : List A) (x : A) (rest : Result (List A) SceneFault) → with_front found (rest >>= λ xs. Ok (x ∷ xs)) ≡ with_front (found ++ x ∷ []) rest
 push_front found x (Ok ys) = ap Ok (sym (append_assoc found (x ∷ []) ys))
 push_front found x (Err e) = refl
 

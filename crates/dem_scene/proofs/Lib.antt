@@ -1,3 +1,4 @@
 pub mod Trees
 pub mod GivesFacts
 pub mod Elements
+pub mod ClumpFacts

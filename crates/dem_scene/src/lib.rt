@@ -1,6 +1,7 @@
 //! The scene text: its whole reading, to a Scene or to the first fault with its place.
 #![tactic(auto)]
 
+mod clump;
 mod list;
 mod material;
 mod number;

@@ -2,7 +2,7 @@
 
 ghost use Rattle.std.specs.Prelude.{◌≡◌, IfOk};
 ghost use Rattle.serde_json.specs.View.{view};
-ghost use Rattle.dem_model.specs.ReadingKinds.{sphere_of, template_of};
+ghost use Rattle.dem_model.specs.ReadingKinds.{sphere_of, template_of, widest_of, greatest_radius};
 ghost use Rattle.dem_model.specs.Sound.{IsBall, IsTemplate};
 ghost use Rattle.dem_scene.specs.Gives.{Gives};
 
@@ -120,4 +120,28 @@ fn template(alloc: Global, value: &Value, materials: u32, i: u32) -> Result<Temp
         moments,
         balls,
     })
+}
+
+/// The greatest of a radius and the radii of some spheres.
+#[tactic(auto, unfolding(dem_model::specs::ReadingKinds::widest_of))]
+fn widest_ball(r: u32, balls: &[Ball]) -> u32
+    ensures { result ≡ widest_of r balls.now }
+{
+    let mut most = r;
+    for ball in balls {
+        most = most.max(ball.r);
+    }
+    most
+}
+
+/// The greatest sphere radius of the templates.
+#[tactic(auto, unfolding(dem_model::specs::ReadingKinds::greatest_radius))]
+pub(crate) fn widest(templates: &[Template]) -> u32
+    ensures { result ≡ greatest_radius templates.now }
+{
+    let mut most = 0;
+    for template in templates {
+        most = widest_ball(most, template.balls.as_slice());
+    }
+    most
 }

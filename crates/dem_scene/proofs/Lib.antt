@@ -2,3 +2,4 @@ pub mod Trees
 pub mod GivesFacts
 pub mod Elements
 pub mod ClumpFacts
+pub mod TableFacts

@@ -2,6 +2,7 @@
 #![tactic(auto)]
 
 mod clump;
+mod draft;
 mod list;
 mod material;
 mod number;

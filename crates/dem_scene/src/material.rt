@@ -1,16 +1,15 @@
 //! A material of a scene text.
 
-ghost use Rattle.std.specs.Prelude.{◌≡◌, ◌≤◌, IfOk};
+ghost use Rattle.std.specs.Prelude.{◌≡◌, IfOk};
 ghost use Rattle.serde_json.specs.View.{view};
-ghost use Rattle.dem_model.specs.Reading.{number_or};
 ghost use Rattle.dem_model.specs.ReadingKinds.{material_of};
 ghost use Rattle.dem_model.specs.Sound.{IsMaterial};
 ghost use Rattle.dem_scene.specs.Gives.{Gives};
 
 use crate::list::ReadItem;
-use crate::number::{number, number_or_zero, spot};
+use crate::number::{small_number, small_number_or_zero, spot};
 use crate::object::check;
-use dem_model::{MAX_RATIO, MAX_STIFFNESS, Material, Name, SceneFault, Spot};
+use dem_model::{MAX_RATIO, MAX_STIFFNESS, Material, Name, SceneFault};
 use serde_json::Value;
 use std::alloc::Global;
 
@@ -37,25 +36,10 @@ fn material(value: &Value, i: u32) -> Result<Material, SceneFault>
     ensures range { IfOk result IsMaterial }
 {
     check(value, spot(Name::Materials, i, 0))?;
-    let stiffest = u64::from(MAX_STIFFNESS);
-    let kn = number(value, "kn", 1, stiffest, spot(Name::MaterialsKn, i, 0))?;
-    let kt = number_or_zero(value, "kt", stiffest, spot(Name::MaterialsKt, i, 0))?;
-    let bn = ratio(value, "bn", spot(Name::MaterialsBn, i, 0))?;
-    let bt = ratio(value, "bt", spot(Name::MaterialsBt, i, 0))?;
-    let mu = ratio(value, "mu", spot(Name::MaterialsMu, i, 0))?;
-    Ok(Material {
-        kn: kn as u32,
-        kt: kt as u32,
-        bn,
-        bt,
-        mu,
-    })
-}
-
-/// Damping or friction.
-fn ratio(value: &Value, name: &str, at: Spot) -> Result<u32, SceneFault>
-    ensures value { result ≡ number_or name.now 0 MAX_RATIO at (view value.now) }
-    ensures range { IfOk result (λ n. n ≤ MAX_RATIO) }
-{
-    Ok(number_or_zero(value, name, u64::from(MAX_RATIO), at)? as u32)
+    let kn = small_number(value, "kn", 1, MAX_STIFFNESS, spot(Name::MaterialsKn, i, 0))?;
+    let kt = small_number_or_zero(value, "kt", MAX_STIFFNESS, spot(Name::MaterialsKt, i, 0))?;
+    let bn = small_number_or_zero(value, "bn", MAX_RATIO, spot(Name::MaterialsBn, i, 0))?;
+    let bt = small_number_or_zero(value, "bt", MAX_RATIO, spot(Name::MaterialsBt, i, 0))?;
+    let mu = small_number_or_zero(value, "mu", MAX_RATIO, spot(Name::MaterialsMu, i, 0))?;
+    Ok(Material { kn, kt, bn, bt, mu })
 }

@@ -76,6 +76,33 @@ pub(crate) fn number_or_zero(
     }
 }
 
+/// The whole number of a name, from `low` to `high`, where these fit 32 bits.
+pub(crate) fn small_number(
+    value: &Value,
+    name: &str,
+    low: u32,
+    high: u32,
+    at: Spot,
+) -> Result<u32, SceneFault>
+    ensures value { result ≡ number_at name.now low high at (view value.now) }
+    ensures range { IfOk result (IsFrom low high) }
+{
+    Ok(number(value, name, u64::from(low), u64::from(high), at)? as u32)
+}
+
+/// The whole number of a name, from 0 to `high`, which fits 32 bits, or 0 where the name isn't there.
+pub(crate) fn small_number_or_zero(
+    value: &Value,
+    name: &str,
+    high: u32,
+    at: Spot,
+) -> Result<u32, SceneFault>
+    ensures value { result ≡ number_or name.now 0 high at (view value.now) }
+    ensures range { IfOk result (IsFrom 0 high) }
+{
+    Ok(number_or_zero(value, name, u64::from(high), at)? as u32)
+}
+
 /// A whole number below a count.
 #[tactic(auto, unfolding(dem_model::specs::Reading::index_of, dem_model::specs::Reading::below))]
 fn index_in(value: &Value, count: u32, at: Spot) -> Result<u32, SceneFault>

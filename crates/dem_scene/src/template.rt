@@ -7,7 +7,7 @@ ghost use Rattle.dem_model.specs.Sound.{IsBall, IsTemplate};
 ghost use Rattle.dem_scene.specs.Gives.{Gives};
 
 use crate::list::{ReadItem, list};
-use crate::number::{index, number, spot};
+use crate::number::{index, number, small_number, spot};
 use crate::object::check;
 use crate::vector::{vector_between, vector_sized};
 use dem_model::{
@@ -49,11 +49,11 @@ fn sphere(value: &Value, materials: u32, i: u32, j: u32) -> Result<Ball, SceneFa
         MAX_OFFSET,
         spot(Name::TemplatesSpheresAt, i, j),
     )?;
-    let r = number(
+    let r = small_number(
         value,
         "r",
         1,
-        u64::from(MAX_RADIUS),
+        MAX_RADIUS,
         spot(Name::TemplatesSpheresR, i, j),
     )?;
     let mat = index(
@@ -62,11 +62,7 @@ fn sphere(value: &Value, materials: u32, i: u32, j: u32) -> Result<Ball, SceneFa
         materials,
         spot(Name::TemplatesSpheresMat, i, j),
     )?;
-    Ok(Ball {
-        at,
-        r: r as u32,
-        mat,
-    })
+    Ok(Ball { at, r, mat })
 }
 
 /// Reads templates.

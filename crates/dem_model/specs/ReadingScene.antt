@@ -85,9 +85,13 @@ table_of d = do
 unfoldable pub in_limits : SceneValue → Body → Bool
 in_limits s b = each_is (at_most s.speed) b.v && each_is (at_most s.spin) b.w
 
+-- whether the centre of each sphere lies in the box
+unfoldable pub centres_inside : SceneValue → Body → List Ball → Bool
+centres_inside s b balls = list_all (λ ball. in_box s (centre_of b ball)) balls
+
 -- whether a body and the centre of each sphere lie in the box
 unfoldable pub is_inside : SceneValue → Body → List Ball → Bool
-is_inside s b balls = in_box s (widened b.p) && list_all (λ ball. in_box s (centre_of b ball)) balls
+is_inside s b balls = in_box s (widened b.p) && centres_inside s b balls
 
 -- a clump that is within the limits, and then inside the box
 unfoldable pub check_clump : SceneValue → ℕ → Clump → Result ⊤ SceneFault

@@ -3,3 +3,4 @@ pub mod GivesFacts
 pub mod Elements
 pub mod ClumpFacts
 pub mod TableFacts
+pub mod PlaceFacts

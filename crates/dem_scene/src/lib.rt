@@ -7,6 +7,7 @@ mod list;
 mod material;
 mod number;
 mod object;
+mod place;
 mod template;
 mod vector;
 mod wall;

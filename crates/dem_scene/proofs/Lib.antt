@@ -4,3 +4,4 @@ pub mod Elements
 pub mod ClumpFacts
 pub mod TableFacts
 pub mod PlaceFacts
+pub mod JsonFacts

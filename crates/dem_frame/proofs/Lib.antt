@@ -1,2 +1,4 @@
 pub mod RowFacts
 pub mod StateFacts
+pub mod NumberFacts
+pub mod FieldFacts

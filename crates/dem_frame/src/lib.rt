@@ -6,6 +6,7 @@
 //! Not here: which frames a run writes (dem_plain, dem_core), sinks (dem_outside).
 #![tactic(auto)]
 
+mod number;
 mod row;
 mod rows;
 mod state;

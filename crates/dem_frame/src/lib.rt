@@ -7,6 +7,7 @@
 #![tactic(auto)]
 
 mod number;
+mod records;
 mod row;
 mod rows;
 mod state;

@@ -1,5 +1,5 @@
 //! The numbers of a record, read from their decimal form.
-ghost use Rattle.std.specs.Prelude.{◌≡◌, ◌≤◌, ◌+◌, length, drop, option_map};
+ghost use Rattle.std.specs.Prelude.{◌≡◌, ◌≤◌, ◌+◌, length, drop, option_map, IfSome};
 ghost use Rattle.csv.specs.Records.{fields_of};
 ghost use Rattle.dem_frame.specs.Records.{number_of, numbers_of, is_row, row_of};
 
@@ -46,7 +46,8 @@ fn is_row_named(row: &ByteRecord, name: &[u8], count: usize) -> bool
 fn numbers_behind(row: &ByteRecord, count: usize) -> Option<Numbers>
     requires few { count ≤ MAX_NUMBERS }
     requires whole { length (fields_of row.now) ≡ count + 1 }
-    ensures { option_map (λ numbers. numbers.items) result ≡ numbers_of (drop 1 (fields_of row.now)) }
+    ensures numbers { option_map (λ numbers. numbers.items) result ≡ numbers_of (drop 1 (fields_of row.now)) }
+    ensures count { IfSome result (λ numbers. length numbers.items ≡ count) }
 {
     let mut numbers = Numbers::new();
     for i in 0..count {
@@ -65,7 +66,8 @@ fn numbers_behind(row: &ByteRecord, count: usize) -> Option<Numbers>
 #[tactic(auto, unfolding(crate::specs::Records::row_of))]
 pub(crate) fn row_numbers(row: &ByteRecord, name: &[u8], count: usize) -> Option<Numbers>
     requires { count ≤ MAX_NUMBERS }
-    ensures { option_map (λ numbers. numbers.items) result ≡ row_of name.now count (fields_of row.now) }
+    ensures numbers { option_map (λ numbers. numbers.items) result ≡ row_of name.now count (fields_of row.now) }
+    ensures count { IfSome result (λ numbers. length numbers.items ≡ count) }
 {
     if is_row_named(row, name, count) {
         numbers_behind(row, count)

@@ -8,11 +8,11 @@ use Rattle.dem_frame.proofs.number.numbers_behind.Goals as goal
 pub loop-i-init : goal.loop-i-init
 loop-i-init c = rw c.new-numbers.ensures (Reads-start _, refl)
 
-pub returns-in_default : goal.returns-in_default
-returns-in_default c = absurd (field-there (fields_of c.args.row.now) (c.loop-i.i + 1) (omega arith) (sym c.in_default.ensures.value))
+pub returns-in_default-clause-numbers : goal.returns-in_default-clause-numbers
+returns-in_default-clause-numbers c = absurd (field-there (fields_of c.args.row.now) (c.loop-i.i + 1) (omega arith) (sym c.in_default.ensures.value))
 
-pub returns-in_default-number : goal.returns-in_default-number
-returns-in_default-number c =
+pub returns-in_default-number-clause-numbers : goal.returns-in_default-number-clause-numbers
+returns-in_default-number-clause-numbers c =
     sym (Reads-none c.loop-i.numbers.items _ (fields_of c.args.row.now) (c.loop-i.i + 1) c.in-Some.field.now c.loop-i.invariant.0 (sym c.in-Some.ensures.value) (sym c.in_default-number.ensures))
 
 pub loop-i-preserved : goal.loop-i-preserved
@@ -23,5 +23,5 @@ loop-i-preserved c =
      (Reads-more c.loop-i.numbers.items _ (fields_of c.args.row.now) (c.loop-i.i + 1) c.in-Some.field.now c.in-Some-number.number c.loop-i.invariant.0 (sym c.in-Some.ensures.value) (sym c.in-Some-number.ensures)),
      rw items (omega (arith, length-append c.loop-i.numbers.items (c.in-Some-number.number ∷ []))))
 
-pub returns : goal.returns
-returns c = sym (Reads-all c.loop-i.numbers.items _ (fields_of c.args.row.now) (c.loop-i.i + 1) (omega arith) c.loop-i.invariant.0)
+pub returns-clause-numbers : goal.returns-clause-numbers
+returns-clause-numbers c = sym (Reads-all c.loop-i.numbers.items _ (fields_of c.args.row.now) (c.loop-i.i + 1) (omega arith) c.loop-i.invariant.0)

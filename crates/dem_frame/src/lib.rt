@@ -6,12 +6,14 @@
 //! Not here: which frames a run writes (dem_plain, dem_core), sinks (dem_outside).
 #![tactic(auto)]
 
+mod front;
 mod number;
 mod records;
 mod row;
 mod rows;
 mod state;
 
+pub use front::FrameFault;
 pub use row::WriteFault;
 pub use rows::{write_clump, write_end, write_head, write_pair, write_taken, write_tests};
 pub use state::write_state;

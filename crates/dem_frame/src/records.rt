@@ -11,6 +11,9 @@ use csv::ByteRecord;
 use dem_model::{Body, Held, MAX_STEPS, Pair};
 use dem_num::{Quat, Vec3};
 
+/// The greatest component of a displacement, in size: 2^40 parts of which 2^16 are one u.
+const MAX_HELD: u64 = 1 << 40;
+
 // The number, where it is from 0 to `high`.
 #[tactic(auto, unfolding(crate::specs::Records::whole_of))]
 fn whole(n: i64, high: u32) -> Option<u32>
@@ -88,4 +91,55 @@ pub(crate) fn read_clump(row: &ByteRecord, i: u32) -> Option<Body>
 {
     let numbers = row_numbers(row, b"clump", 14)?;
     body_of_clump(numbers.as_slice(), i)
+}
+
+// Each component is at most 2^40 in size.
+#[tactic(auto, unfolding(crate::specs::Records::is_small))]
+fn is_small_enough(h: Vec3) -> bool
+    ensures { result ≡ is_small h }
+{
+    h.x.unsigned_abs() <= MAX_HELD && h.y.unsigned_abs() <= MAX_HELD && h.z.unsigned_abs() <= MAX_HELD
+}
+
+// Whether the pair comes after the last one, if there is one.
+#[tactic(auto, unfolding(crate::specs::Records::continues, crate::specs::Records::comes_after))]
+fn is_next(last: Option<Held>, pair: Pair) -> bool
+    ensures { result ≡ continues last pair }
+{
+    match last {
+        None => true,
+        Some(e) => e.pair.a < pair.a || e.pair.a == pair.a && e.pair.b < pair.b,
+    }
+}
+
+// The pair with its displacement, where both are in range and the pair comes after the last one.
+#[tactic(auto, unfolding(crate::specs::Records::held_from))]
+fn held(last: Option<Held>, pair: Pair, h: Vec3) -> Option<Held>
+    ensures { result ≡ held_from last pair h }
+{
+    if pair.a < pair.b && is_small_enough(h) && is_next(last, pair) {
+        Some(Held { pair, h })
+    } else {
+        None
+    }
+}
+
+// The same from the numbers of a row.
+#[tactic(auto, unfolding(crate::specs::Records::held_at))]
+fn held_of_numbers(last: Option<Held>, numbers: &[i64]) -> Option<Held>
+    requires { length numbers.now ≡ 5 }
+    ensures { result ≡ held_at last numbers.now }
+{
+    let a = whole(numbers[0], u32::MAX)?;
+    let b = whole(numbers[1], u32::MAX)?;
+    held(last, Pair { a, b }, vector_at(numbers, 2))
+}
+
+/// A pair after the last one, from its row.
+#[tactic(auto, unfolding(crate::specs::Records::pair_of))]
+pub(crate) fn read_pair(row: &ByteRecord, last: Option<Held>) -> Option<Held>
+    ensures { result ≡ pair_of last (fields_of row.now) }
+{
+    let numbers = row_numbers(row, b"pair", 5)?;
+    held_of_numbers(last, numbers.as_slice())
 }

@@ -2,3 +2,4 @@ pub mod RowFacts
 pub mod StateFacts
 pub mod NumberFacts
 pub mod FieldFacts
+pub mod FrontFacts

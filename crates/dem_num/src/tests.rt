@@ -19,6 +19,7 @@ fn takes_roots(rt: HostRuntime) {
 }
 
 #[test]
+#[tactic(auto, unfolding(crate::specs::Rotations::quat_norm2_of))]
 fn multiplies_vectors(rt: HostRuntime) {
     let a = Vec3 { x: 1, y: -2, z: 3 };
     let b = Wide3 { x: 4, y: 5, z: -6 };

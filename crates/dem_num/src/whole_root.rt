@@ -14,14 +14,11 @@ pub fn root(x: u128) -> u64
     ensures is_root { IsRoot x result }
     ensures value { result ≡ root_of x }
 {
-    if x < SHORT {
-        tested(x, short_guess(x as u64))
-    } else {
-        tested(x, long_guess(x))
-    }
+    let guess = if x < SHORT { short_guess(x as u64) } else { long_guess(x) };
+    tested(x, guess)
 }
 
-/// The root where the guess is the root or one less; else it is found slowly.
+/// The root: quickly where the guess is the root or one less.
 fn tested(x: u128, guess: u64) -> u64
     ensures { IsRoot x result }
 {
@@ -36,5 +33,14 @@ fn tested(x: u128, guess: u64) -> u64
             return guess + 1;
         }
     }
+    found_slowly(x)
+}
+
+/// The root, whatever was guessed.
+#[cold]
+#[inline(never)]
+fn found_slowly(x: u128) -> u64
+    ensures { IsRoot x result }
+{
     x.isqrt() as u64
 }

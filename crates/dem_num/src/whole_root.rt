@@ -14,7 +14,11 @@ pub fn root(x: u128) -> u64
     ensures is_root { IsRoot x result }
     ensures value { result ≡ root_of x }
 {
-    let guess = if x < SHORT { short_guess(x as u64) } else { long_guess(x) };
+    let guess = if x < SHORT {
+        short_guess(x as u64)
+    } else {
+        long_guess(x)
+    };
     tested(x, guess)
 }
 

@@ -5,16 +5,13 @@ use Rattle.std.specs.Str.{is_utf8}
 use Rattle.serde_json.specs.Data.{Data}
 use Rattle.serde_json.specs.Read.{read}
 use Rattle.serde_json.specs.Find.{get, as_array}
-use Rattle.dem_num.specs.declared.vector.Vec3.{Vec3}
 use Rattle.dem_num.specs.Vectors.{widened}
 use Rattle.dem_model.specs.declared.fault.Spot.{Spot}
 use Rattle.dem_model.specs.declared.fault.Name.TheVariants as names
 use Rattle.dem_model.specs.declared.fault.SceneFault.{SceneFault}
 use Rattle.dem_model.specs.declared.fault.SceneFault.TheVariants.{TooLong, NotJson, Version, OverLimit, OutsideBox}
-use Rattle.dem_model.specs.declared.shape.Material.{Material}
 use Rattle.dem_model.specs.declared.shape.Ball.{Ball}
 use Rattle.dem_model.specs.declared.shape.Template.{Template}
-use Rattle.dem_model.specs.declared.shape.Wall.{Wall}
 use Rattle.dem_model.specs.declared.state.Body.{Body}
 use Rattle.dem_model.specs.declared.state.Clump.{Clump}
 use Rattle.dem_model.specs.declared.limits.TheConstants.{MAX_TEXT, MAX_VOXELS, MAX_STEPS, MAX_SPEED, MAX_SPIN, MAX_GRAVITY, MAX_MATERIALS, MAX_TEMPLATES, MAX_WALLS, MAX_CLUMPS}
@@ -42,22 +39,6 @@ version_of at d = do
 unfoldable pub check_version : Data → Result ⊤ SceneFault
 check_version d = required (spot names.Version 0 0) (version_of (spot names.Version 0 0)) (get (codes "version") d)
 
--- the box: the voxels on each axis
-unfoldable pub size_at : Data → Result Vec3 SceneFault
-size_at d = vector_at (codes "box") (from_to 1 MAX_VOXELS) (spot names.Box 0 0) d
-
--- the materials
-unfoldable pub materials_at : Data → Result (List Material) SceneFault
-materials_at d = list_at (codes "materials") 1 MAX_MATERIALS (spot names.Materials 0 0) material_of d
-
--- the templates, whose spheres have so many materials to choose from
-unfoldable pub templates_at : ℕ → Data → Result (List Template) SceneFault
-templates_at materials d = list_at (codes "templates") 1 MAX_TEMPLATES (spot names.Templates 0 0) (template_of materials) d
-
--- the walls, beside so many materials and spheres that are at most so wide
-unfoldable pub walls_at : ℕ → ℕ → Data → Result (List Wall) SceneFault
-walls_at materials widest d = list_or (codes "walls") 0 MAX_WALLS (spot names.Walls 0 0) (wall_of materials widest) d
-
 -- the clumps: a list, read one after the other
 unfoldable pub clumps_of : List Template → Spot → Data → Result (List Clump) SceneFault
 clumps_of templates at d = do
@@ -73,15 +54,15 @@ unfoldable pub table_of : Data → Result SceneValue SceneFault
 table_of d = do
   _ ← check_object (spot names.Scene 0 0) d
   _ ← check_version d
-  size ← size_at d
+  size ← vector_at (codes "box") (from_to 1 MAX_VOXELS) (spot names.Box 0 0) d
   steps ← number_at (codes "steps") 0 MAX_STEPS (spot names.Steps 0 0) d
   every ← number_at (codes "every") 1 MAX_STEPS (spot names.Every 0 0) d
   speed ← number_at (codes "speed") 1 MAX_SPEED (spot names.Speed 0 0) d
   spin ← number_at (codes "spin") 1 MAX_SPIN (spot names.Spin 0 0) d
   gravity ← vector_or (codes "gravity") (at_most MAX_GRAVITY) (spot names.Gravity 0 0) d
-  materials ← materials_at d
-  templates ← templates_at (length materials) d
-  walls ← walls_at (length materials) (greatest_radius templates) d
+  materials ← list_at (codes "materials") 1 MAX_MATERIALS (spot names.Materials 0 0) material_of d
+  templates ← list_at (codes "templates") 1 MAX_TEMPLATES (spot names.Templates 0 0) (template_of (length materials)) d
+  walls ← list_or (codes "walls") 0 MAX_WALLS (spot names.Walls 0 0) (wall_of (length materials) (greatest_radius templates)) d
   clumps ← clumps_at templates d
   Ok (record {
     nx = unsigned_abs size.x;

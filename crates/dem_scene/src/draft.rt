@@ -1,8 +1,10 @@
 //! A scene as the table of the text gives it, before its clumps are tested against the limits and the box.
 
-ghost use Rattle.std.specs.Prelude.{◌≡◌, pos, unsigned_abs, IfOk, All};
+ghost use Rattle.std.specs.Prelude.{◌≡◌, codes, pos, unsigned_abs, IfOk, All};
 ghost use Rattle.serde_json.specs.View.{view};
-ghost use Rattle.dem_model.specs.ReadingScene.{size_at, version_of, check_version, table_of};
+ghost use Rattle.dem_model.specs.Reading.{spot, from_to};
+ghost use Rattle.dem_model.specs.ReadingVectors.{vector_at};
+ghost use Rattle.dem_model.specs.ReadingScene.{version_of, check_version, table_of};
 ghost use Rattle.dem_model.specs.Sound.{IsFrom, IsBetween, EachBetween, IsClump};
 ghost use Rattle.dem_scene.specs.Gives.{Gives};
 ghost use Rattle.dem_scene.specs.Table.{IsTable};
@@ -86,9 +88,8 @@ fn check_version(value: &Value) -> Result<(), SceneFault>
 }
 
 /// The box: the voxels on each axis.
-#[tactic(auto, unfolding(dem_model::specs::ReadingScene::size_at))]
 fn size(value: &Value) -> Result<Vec3, SceneFault>
-    ensures value { result ≡ size_at (view value.now) }
+    ensures value { result ≡ vector_at (codes "box") (from_to 1 MAX_VOXELS) (spot Name.Box 0 0) (view value.now) }
     ensures range { IfOk result (EachBetween (pos 1) (pos MAX_VOXELS)) }
 {
     vector_between(

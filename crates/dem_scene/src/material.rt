@@ -1,8 +1,8 @@
 //! A material of a scene text.
 
-ghost use Rattle.std.specs.Prelude.{◌≡◌, IfOk, All, length};
+ghost use Rattle.std.specs.Prelude.{◌≡◌, codes, IfOk, All, length};
 ghost use Rattle.serde_json.specs.View.{view};
-ghost use Rattle.dem_model.specs.ReadingScene.{materials_at};
+ghost use Rattle.dem_model.specs.Reading.{spot, list_at};
 ghost use Rattle.dem_model.specs.ReadingKinds.{material_of};
 ghost use Rattle.dem_model.specs.Sound.{IsFrom, IsMaterial};
 ghost use Rattle.dem_scene.specs.Gives.{Gives};
@@ -31,9 +31,9 @@ impl ReadItem for Materials {
 }
 
 /// The materials of the scene object.
-#[tactic(auto, unfolding(dem_model::specs::ReadingScene::materials_at))]
 pub(crate) fn read_materials(alloc: Global, value: &Value) -> Result<List<Material>, SceneFault>
-    ensures value { Gives result (materials_at (view value.now)) }
+    ensures value { Gives result (list_at (codes "materials") 1 MAX_MATERIALS (spot Name.Materials 0 0) material_of
+        (view value.now)) }
     ensures range { IfOk result (All IsMaterial) }
     ensures count { IfOk result (λ ms. IsFrom 1 MAX_MATERIALS (length ms)) }
 {

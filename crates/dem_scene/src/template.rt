@@ -1,8 +1,8 @@
 //! A template of a scene text, and its spheres.
 
-ghost use Rattle.std.specs.Prelude.{◌≡◌, IfOk, All, length};
+ghost use Rattle.std.specs.Prelude.{◌≡◌, codes, IfOk, All, length};
 ghost use Rattle.serde_json.specs.View.{view};
-ghost use Rattle.dem_model.specs.ReadingScene.{templates_at};
+ghost use Rattle.dem_model.specs.Reading.{spot, list_at};
 ghost use Rattle.dem_model.specs.ReadingKinds.{sphere_of, template_of, widest_of, greatest_radius};
 ghost use Rattle.dem_model.specs.Sound.{IsFrom, IsBall, IsTemplate};
 ghost use Rattle.dem_scene.specs.Gives.{Gives};
@@ -86,13 +86,13 @@ impl ReadItem for Templates {
 }
 
 /// The templates of the scene object.
-#[tactic(auto, unfolding(dem_model::specs::ReadingScene::templates_at))]
 pub(crate) fn read_templates(
     alloc: Global,
     value: &Value,
     materials: u32,
 ) -> Result<List<Template>, SceneFault>
-    ensures value { Gives result (templates_at materials (view value.now)) }
+    ensures value { Gives result (list_at (codes "templates") 1 MAX_TEMPLATES (spot Name.Templates 0 0)
+        (template_of materials) (view value.now)) }
     ensures range { IfOk result (All (IsTemplate materials)) }
     ensures count { IfOk result (λ ts. IsFrom 1 MAX_TEMPLATES (length ts)) }
 {

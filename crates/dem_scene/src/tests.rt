@@ -199,3 +199,43 @@ fn reads_every_kind(rt: HostRuntime) -> Result<(), Fail> {
     assert_eq!(rt; clumps[1].body.w, Vec3 { x: -4, y: 5, z: -6 });
     Ok(())
 }
+
+/// A scene of so many clumps of so many spheres each.
+fn crowd(alloc: Global, clumps: u32, spheres: u32) -> Result<String, AllocError> {
+    let mut text = String::from_str(
+        alloc,
+        r#"{"version":1,"box":[1,1,1],"steps":0,"every":1,"speed":1,"spin":1,"materials":[{"kn":1}],"templates":[{"mass":1,"moments":[1,1,1],"spheres":["#,
+    )?;
+    for k in 0..spheres {
+        text.push_str(if k == 0 { "" } else { "," })?;
+        text.push_str(r#"{"at":[0,0,0],"r":10,"mat":0}"#)?;
+    }
+    text.push_str(r#"]}],"clumps":["#)?;
+    for k in 0..clumps {
+        text.push_str(if k == 0 { "" } else { "," })?;
+        text.push_str(
+            r#"{"t":0,"p":[65535,0,9],"v":[0,-1,1],"q":[1073741824,0,0,0],"w":[0,0,1]}"#,
+        )?;
+    }
+    text.push_str("]}")?;
+    Ok(text)
+}
+
+#[test]
+fn counts_clumps_and_spheres(rt: HostRuntime) -> Result<(), Fail> {
+    for (clumps, spheres, line) in [
+        (16_384, 2, ""),
+        (16_385, 1, "scene: count clumps 0 0\n"),
+        (16_384, 3, "scene: count clumps.total 10922 0\n"),
+        (1, 16, ""),
+        (1, 17, "scene: count templates.spheres 0 0\n"),
+    ] {
+        let text = crowd(rt.alloc(), clumps, spheres)?;
+        assert_eq!(rt;
+            line_of(rt.alloc(), text.as_bytes()).as_slice(),
+            line.as_bytes(),
+            "{clumps} {spheres}"
+        );
+    }
+    Ok(())
+}

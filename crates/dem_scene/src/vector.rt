@@ -5,7 +5,8 @@ ghost use Rattle.serde_json.specs.View.{view};
 ghost use Rattle.dem_num.specs.Vectors.{widened, Within, is_zero};
 ghost use Rattle.dem_num.specs.Rotations.{quat_norm2_of};
 ghost use Rattle.dem_model.specs.Reading.{at_most, from_to};
-ghost use Rattle.dem_model.specs.ReadingVectors.{three_at, four_at, each_is, vector_of, vector_at, vector_or, direction_of, direction_at, is_bounded, is_long, quaternion_of, quaternion_or};
+ghost use Rattle.dem_model.specs.ReadingVectors.{three_at, each_is, vector_of, vector_at, vector_or, direction_of, direction_at};
+ghost use Rattle.dem_model.specs.ReadingVectors.{four_at, is_bounded, is_long, quaternion_of, quaternion_or};
 ghost use Rattle.dem_model.specs.Sound.{IsFrom, IsBetween, EachBetween};
 
 use crate::number::whole;

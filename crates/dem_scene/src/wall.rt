@@ -1,8 +1,8 @@
 //! A wall of a scene text: a plane or a cylinder.
 
-ghost use Rattle.std.specs.Prelude.{◌≡◌, ◌≤◌, ℕ, IfOk, All, length};
+ghost use Rattle.std.specs.Prelude.{◌≡◌, ◌≤◌, ℕ, codes, IfOk, All, length};
 ghost use Rattle.serde_json.specs.View.{view};
-ghost use Rattle.dem_model.specs.ReadingScene.{walls_at};
+ghost use Rattle.dem_model.specs.Reading.{spot, list_or};
 ghost use Rattle.dem_model.specs.ReadingKinds.{plane_of, axis_at, cylinder_of, form_at, wall_of};
 ghost use Rattle.dem_scene.specs.Gives.{Gives};
 ghost use Rattle.dem_scene.specs.Walls.{IsFormBeyond, IsWallBeyond};
@@ -38,14 +38,14 @@ impl ReadItem for Walls {
 }
 
 /// The walls of the scene object; `widest` is the greatest sphere radius of the templates.
-#[tactic(auto, unfolding(dem_model::specs::ReadingScene::walls_at))]
 pub(crate) fn read_walls(
     alloc: Global,
     value: &Value,
     materials: u32,
     widest: u32,
 ) -> Result<List<Wall>, SceneFault>
-    ensures value { Gives result (walls_at materials widest (view value.now)) }
+    ensures value { Gives result (list_or (codes "walls") 0 MAX_WALLS (spot Name.Walls 0 0)
+        (wall_of materials widest) (view value.now)) }
     ensures range { IfOk result (All (IsWallBeyond materials widest)) }
     ensures count { IfOk result (λ ws. length ws ≤ MAX_WALLS) }
 {

@@ -1,1 +1,3 @@
 pub mod Running
+pub mod Verdicts
+pub mod Jobs

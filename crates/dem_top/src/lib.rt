@@ -6,4 +6,6 @@
 //! Takes memory: `main_call`. Not here: the streams of the process (dem).
 #![tactic(auto)]
 
+mod command;
+mod reading;
 mod running;

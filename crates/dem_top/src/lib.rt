@@ -6,6 +6,8 @@
 //! Takes memory: `main_call`. Not here: the streams of the process (dem).
 #![tactic(auto)]
 
+mod answer;
 mod command;
+mod job;
 mod reading;
 mod running;

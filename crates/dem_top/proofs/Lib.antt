@@ -2,3 +2,4 @@ pub mod RunLaw
 pub mod RunFacts
 pub mod LoopFacts
 pub mod JobFacts
+pub mod AnswerFacts

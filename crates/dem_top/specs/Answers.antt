@@ -1,5 +1,5 @@
 -- What a call comes to: the line on `note`, and what the source and both sinks are then.
-use Rattle.std.specs.Prelude.{◌≡◌, ℕ, true, false, List, Option, Result, Ok, Err, ◌⊎◌}
+use Rattle.std.specs.Prelude.{◌≡◌, ℕ, true, false, List, Option, Result, Ok, Err, ◌⊎◌, IsSomeAnd, IsOk, IsErr}
 use Rattle.std.specs.Io.KnownBytes.{Appends, Keeps, IsAtEnd}
 use Rattle.std.specs.declared.alloc.Global.{Global}
 use Rattle.std.specs.declared.string.String.{String}
@@ -8,6 +8,7 @@ use Rattle.dem_outside.specs.Known.{AppendsFront}
 use Rattle.dem_model.specs.SceneValue.{SceneValue}
 use Rattle.dem_model.specs.Plain.{last_of}
 use Rattle.dem_model.specs.Output.{output_of}
+use Rattle.dem_model.specs.ReadingScene.{scene_from}
 use Rattle.dem_model.specs.ReadingFaults.{fault_text}
 use Rattle.dem_model.specs.declared.fault.SceneFault.{SceneFault}
 use Rattle.dem_model.specs.declared.state.Last.{Last}
@@ -84,3 +85,33 @@ Answers words left rest reads reads_now held now puts puts_now note note_now not
     (Rose puts puts_now ⊎ Rose notes notes_now) × ForLeft left (WritesFront words held now) × NotesFront words left reads reads_now note note_now
 Answers words left rest reads reads_now held now puts puts_now note note_now notes notes_now answers.OutOfMemory =
     (asks_plain words ≡ true) × ForLeft left (WritesFront words held now) × Keeps note note_now
+
+-- the status of an answer
+abbrev pub status_of : Answer → ℕ
+status_of answers.Done = 0
+status_of answers.Passed = 3
+status_of answers.Usage = 1
+status_of answers.Refused = 2
+status_of answers.ReadFailed = 4
+status_of answers.WriteFailed = 5
+status_of answers.OutOfMemory = 6
+
+-- the status of a run that was made and written
+abbrev pub HasRun : ℕ → Type 0
+HasRun status = (status ≡ 0) ⊎ (status ≡ 3)
+
+-- the status of words, a text or a source that is refused
+abbrev pub IsRefusal : ℕ → Type 0
+IsRefusal status = (status ≡ 1) ⊎ ((status ≡ 2) ⊎ (status ≡ 4))
+
+-- the status of a call that was cut short by a put that failed or by want of memory
+abbrev pub IsCutShort : ℕ → Type 0
+IsCutShort status = (status ≡ 5) ⊎ (status ≡ 6)
+
+-- the bytes that are left are told, and are those of a scene
+abbrev pub HasScene : Option (List ℕ) → Type 0
+HasScene left = IsSomeAnd left (λ bytes. IsOk (scene_from bytes))
+
+-- the bytes that are left are told, and are not those of a scene
+abbrev pub HasFault : Option (List ℕ) → Type 0
+HasFault left = IsSomeAnd left (λ bytes. IsErr (scene_from bytes))

@@ -11,3 +11,6 @@ mod command;
 mod job;
 mod reading;
 mod running;
+mod top;
+
+pub use top::main_call;

@@ -28,7 +28,7 @@ front-kept : (old new : Option (List ℕ)) (text : List ℕ) → Keeps old new �
 front-kept old new text kept = AppendsFront-kept old old new text (AppendsFront-nil old text) kept
 
 -- bad words deserve the usage line
-verdict-bad : (words : List (String Global)) (bytes : List ℕ) → asks_plain words ≡ false → verdict_of words bytes ≡ Usage
+pub verdict-bad : (words : List (String Global)) (bytes : List ℕ) → asks_plain words ≡ false → verdict_of words bytes ≡ Usage
 unfolding verdict_of
 verdict-bad words bytes bad = rw bad
 

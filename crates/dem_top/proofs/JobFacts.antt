@@ -48,7 +48,7 @@ same-scene (Some bytes) (Some others) read all ends =
     (cases_lt MAX_TEXT (length read))
 
 -- good words deserve what the bytes deserve
-verdict-good : (words : List (String Global)) (bytes : List ℕ) (r : Result SceneValue SceneFault) → asks_plain words ≡ true → scene_from bytes ≡ r → verdict_of words bytes ≡ scene_verdict r
+pub verdict-good : (words : List (String Global)) (bytes : List ℕ) (r : Result SceneValue SceneFault) → asks_plain words ≡ true → scene_from bytes ≡ r → verdict_of words bytes ≡ scene_verdict r
 unfolding verdict_of
 verdict-good words bytes r good is = rw (good, is)
 

@@ -3,3 +3,4 @@ pub mod RunFacts
 pub mod LoopFacts
 pub mod JobFacts
 pub mod AnswerFacts
+pub mod PromiseFacts

@@ -6,10 +6,19 @@
 //! Not here: which frames a run writes (dem_plain, dem_core), sinks (dem_outside).
 #![tactic(auto)]
 
+mod front;
+mod number;
+mod read;
+mod records;
 mod row;
 mod rows;
 mod state;
 
+pub use front::FrameFault;
+pub use read::read_frame;
 pub use row::WriteFault;
 pub use rows::{write_clump, write_end, write_head, write_pair, write_taken, write_tests};
 pub use state::write_state;
+
+#[cfg(test)]
+mod tests;

@@ -16,7 +16,7 @@ pub struct WriteFault;
 const ROW_ROOM: usize = 320;
 
 /// The most numbers of a row.
-const MAX_NUMBERS: usize = 14;
+pub(crate) const MAX_NUMBERS: usize = 14;
 
 /// The longest name of a row: `end,domain`.
 const MAX_NAME: usize = 10;

@@ -21,7 +21,13 @@ const OUT_OF_MEMORY: u8 = 6;
 
 fn main(rt: HostRuntime) -> ExitCode {
     let status = match read_words(&rt) {
-        Ok(words) => run(rt.alloc(), words.as_slice(), rt.stdin(), rt.stdout(), rt.stderr()),
+        Ok(words) => run(
+            rt.alloc(),
+            words.as_slice(),
+            rt.stdin(),
+            rt.stdout(),
+            rt.stderr(),
+        ),
         Err(OutOfMemory) => OUT_OF_MEMORY,
     };
     ExitCode::from(status)

@@ -1,5 +1,5 @@
 -- The squared length of a quaternion whose components are bounded.
-use Rattle.std.proofs.Common.{ℕ, ◌*◌, ◌<◌, ◌≤◌, ◌^◌, arith, unsigned_abs}
+use Rattle.std.proofs.Common.{◌<◌, ◌≤◌, ◌^◌, arith, unsigned_abs}
 use Rattle.std.proofs.lemmas.Nat.{mul-le}
 use Rattle.dem_num.specs.declared.vector.Quat.{Quat}
 use Rattle.dem_num.specs.Rotations.{quat_norm2_of}

@@ -44,15 +44,15 @@ module _ (words : List (String Global)) (left rest : Option (List ℕ)) (reads r
   bad-ran status bad ran = none-left left (WritesOutput words held now status) (λ bytes w. no-run words bytes w.scene bad w.deserved) ran
 
   -- bad words get the usage line, or its put failed
-  pub usage-always : (answer : Answer) (status : ℕ) → Whole answer → status ≡ status_of answer → asks_plain words ≡ false → (status ≡ 1) ⊎ (status ≡ 5)
-  usage-always answers.Done status whole is bad = absurd (bad-ran 0 bad whole.0)
-  usage-always answers.Passed status whole is bad = absurd (bad-ran 3 bad whole.0)
-  usage-always answers.Usage status whole is bad = inl is
-  usage-always answers.Refused status whole is bad =
+  pub usage_always : (answer : Answer) (status : ℕ) → Whole answer → status ≡ status_of answer → asks_plain words ≡ false → (status ≡ 1) ⊎ (status ≡ 5)
+  usage_always answers.Done status whole is bad = absurd (bad-ran 0 bad whole.0)
+  usage_always answers.Passed status whole is bad = absurd (bad-ran 3 bad whole.0)
+  usage_always answers.Usage status whole is bad = inl is
+  usage_always answers.Refused status whole is bad =
       absurd (none-left left (PutsFault words note note_now) (λ bytes w. no-refusal words bytes w.fault bad w.deserved) whole.0)
-  usage-always answers.ReadFailed status whole is bad = absurd (let good = whole.0 in cc)
-  usage-always answers.WriteFailed status whole is bad = inr is
-  usage-always answers.OutOfMemory status whole is bad = absurd (let good = whole.0 in cc)
+  usage_always answers.ReadFailed status whole is bad = absurd (let good = whole.0 in cc)
+  usage_always answers.WriteFailed status whole is bad = inr is
+  usage_always answers.OutOfMemory status whole is bad = absurd (let good = whole.0 in cc)
 
   fault-ran : (told : Option (List ℕ)) (status : ℕ) → asks_plain words ≡ true → HasFault told → ForLeft told (WritesOutput words held now status) → ⊥
   fault-ran None status good faulty ran = absurd faulty
@@ -60,14 +60,14 @@ module _ (words : List (String Global)) (left rest : Option (List ℕ)) (reads r
       fault-runs (scene_from bytes) ran.scene (sym (verdict-good words bytes (scene_from bytes) good refl) ∙ ran.deserved) faulty
 
   -- a text that is no scene is refused, or its line's put failed, or memory was wanting
-  pub refused-always : (answer : Answer) (status : ℕ) → Whole answer → status ≡ status_of answer → asks_plain words ≡ true → HasFault left → ¬ Rose reads reads_now → (status ≡ 2) ⊎ IsCutShort status
-  refused-always answers.Done status whole is good faulty calm = absurd (fault-ran left 0 good faulty whole.0)
-  refused-always answers.Passed status whole is good faulty calm = absurd (fault-ran left 3 good faulty whole.0)
-  refused-always answers.Usage status whole is good faulty calm = absurd (let bad = whole.0 in cc)
-  refused-always answers.Refused status whole is good faulty calm = inl is
-  refused-always answers.ReadFailed status whole is good faulty calm = absurd (calm whole.1)
-  refused-always answers.WriteFailed status whole is good faulty calm = inr (inl is)
-  refused-always answers.OutOfMemory status whole is good faulty calm = inr (inr is)
+  pub refused_always : (answer : Answer) (status : ℕ) → Whole answer → status ≡ status_of answer → asks_plain words ≡ true → HasFault left → ¬ Rose reads reads_now → (status ≡ 2) ⊎ IsCutShort status
+  refused_always answers.Done status whole is good faulty calm = absurd (fault-ran left 0 good faulty whole.0)
+  refused_always answers.Passed status whole is good faulty calm = absurd (fault-ran left 3 good faulty whole.0)
+  refused_always answers.Usage status whole is good faulty calm = absurd (let bad = whole.0 in cc)
+  refused_always answers.Refused status whole is good faulty calm = inl is
+  refused_always answers.ReadFailed status whole is good faulty calm = absurd (calm whole.1)
+  refused_always answers.WriteFailed status whole is good faulty calm = inr (inl is)
+  refused_always answers.OutOfMemory status whole is good faulty calm = inr (inr is)
 
   scene-refused : (told : Option (List ℕ)) → asks_plain words ≡ true → HasScene told → ForLeft told (PutsFault words note note_now) → ⊥
   scene-refused None good sound refused = absurd sound

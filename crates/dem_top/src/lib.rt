@@ -14,3 +14,6 @@ mod running;
 mod top;
 
 pub use top::main_call;
+
+#[cfg(test)]
+mod tests;

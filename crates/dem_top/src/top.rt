@@ -18,6 +18,7 @@ use std::alloc::Global;
 /// goes to `out`, and a line on a refusal to `note`. The answer is the status of the process: 0 where the last step was reached, 3 where a
 /// limit was passed, 1 for words that are no good, 2 for a scene text that is refused, 4 for a read that failed, 5 for a put that
 /// failed, whatever was about to be answered, and 6 where memory was wanting.
+#[tactic(auto, using(crate::proofs::PromiseFacts::usage_always, crate::proofs::PromiseFacts::refused_always, crate::proofs::PromiseFacts::complete))]
 pub fn main_call<S: Source, K: Sink, N: Sink>(
     alloc: Global,
     words: &[String],
@@ -53,6 +54,7 @@ pub fn main_call<S: Source, K: Sink, N: Sink>(
 }
 
 // Does the job, and puts its line.
+#[tactic(auto, using(crate::proofs::AnswerFacts::answered))]
 fn answer<S: Source, K: Sink, N: Sink>(
     alloc: Global,
     words: &[String],

@@ -1,23 +1,21 @@
 -- What a sound scene says of each of its spheres.
-use Rattle.std.proofs.Common.{◌≡◌, ℕ, suc, ◌+◌, ◌<◌, ◌≤◌, List, [], ◌∷◌, length, get_or, refl, arith, subst, add-zero, zero-add, inl, inr, Some}
-use Rattle.std.specs.Prelude.{All, IsTrue, slice_get}
-use Rattle.std.proofs.lemmas.Option.{slice_get_cases}
+use Rattle.std.proofs.Common.{◌≡◌, ℕ, suc, ◌+◌, ◌<◌, ◌≤◌, List, [], ◌∷◌, length, get_or, map, refl, arith, subst, add-zero, zero-add, inl, inr, Some}
+use Rattle.std.specs.Prelude.{All, slice_get}
+use Rattle.std.proofs.lemmas.Option.{slice_get_cases, get_or_from_slice_get}
+use Rattle.std.proofs.lemmas.List.{get_or-map, length-map}
 use Rattle.std.proofs.lemmas.List.Elements.{All-append, All-map, All-nil}
+use Rattle.dem_num.specs.Vectors.{narrowed, no_vector}
 use Rattle.dem_model.specs.SceneValue.{SceneValue}
-use Rattle.dem_model.specs.Position.{in_box}
-use Rattle.dem_model.specs.Spheres.{Sphere, sphere_of, balls_of, spheres_of_clump, spheres_from, spheres_of, centre_of}
-use Rattle.dem_model.specs.Sound.{IsSound, IsBall, IsTemplate, IsClump, IsBodyOf}
+use Rattle.dem_model.specs.Spheres.{sphere_of, balls_of, spheres_of_clump, spheres_from, spheres_of}
+use Rattle.dem_model.specs.Sound.{IsSound, IsBall, IsTemplate, IsClump}
 use Rattle.dem_model.specs.Pairs.{sphere_at, sphere_count, no_sphere}
+use Rattle.dem_model.specs.Centres.{body_at, centre_at, placed, centres_of}
 use Rattle.dem_model.specs.Step.{clump_at, no_clump}
+use Rattle.dem_model.specs.Motion.{IsSphere, AreSound, AreInside}
+use Rattle.dem_model.specs.declared.shape.Ball.{Ball}
 use Rattle.dem_model.specs.declared.shape.Template.{Template}
 use Rattle.dem_model.specs.declared.state.Body.{Body}
 use Rattle.dem_model.specs.declared.state.Clump.{Clump}
-
--- a sphere's clump is there, its ball is within its ranges, and its centre is in the box where its clump's body is sound
-pub record IsSphere (s : SceneValue) (x : Sphere) : Type 0 where
-  pub clump : x.clump < length s.clumps
-  pub ball : IsBall (length s.materials) x.ball
-  pub centre : (b : Body) → IsBodyOf s (clump_at s x.clump) b → IsTrue (in_box s (centre_of b x.ball))
 
 -- a template that is there: its spheres, mass and moments are those that its number gives
 pub record HasTemplate (s : SceneValue) (t : ℕ) : Type 0 where
@@ -37,6 +35,14 @@ has_template s t sound there =
 pub balls_of-sound : (s : SceneValue) (t : ℕ) → IsSound s → t < length s.templates → All (IsBall (length s.materials)) (balls_of s.templates t)
 unfolding balls_of
 balls_of-sound s t sound there = let h = has_template s t sound there in rw h.is_it h.sound.balls
+
+-- what all spheres of the templates are narrower than, those of a template are narrower than
+balls_of-narrower : (s : SceneValue) (t radius : ℕ) → IsSound s → t < length s.templates →
+    All (λ (x : Template). All (λ (y : Ball). y.r < radius) x.balls) s.templates → All (λ (y : Ball). y.r < radius) (balls_of s.templates t)
+unfolding balls_of
+balls_of-narrower s t radius sound there all =
+    let h = has_template s t sound there in
+    rw h.is_it (subst (λ (x : Template). All (λ (y : Ball). y.r < radius) x.balls) (get_or_from_slice_get s.templates t h.it h.it h.is_it) (all t h.it there))
 
 -- a template has a few spheres, or its number names none
 pub balls_of-count : (s : SceneValue) (t : ℕ) → IsSound s → length (balls_of s.templates t) ≤ 16
@@ -62,6 +68,7 @@ spheres_of_clump-sound s k sound there =
     (λ j d lt. record {
       clump = there;
       ball = balls_of-sound s (clump_at s k).t sound c.t j d lt;
+      narrower = λ radius all. balls_of-narrower s (clump_at s k).t radius sound c.t all j d lt;
       centre = λ b h. h.centres j d lt;
     })
 
@@ -87,3 +94,14 @@ spheres_of-sound s sound = spheres_from-sound s 0 s.clumps sound (omega arith) (
 pub sphere_at-sound : (s : SceneValue) (i : ℕ) → IsSound s → i < sphere_count s → IsSphere s (sphere_at s i)
 unfolding sphere_at sphere_count
 sphere_at-sound s i sound there = spheres_of-sound s sound i no_sphere there
+
+-- where the bodies are sound, each centre is in the box
+pub centres_of-inside : (s : SceneValue) (bodies : List Body) → IsSound s → AreSound s bodies → AreInside s (centres_of s bodies)
+unfolding centres_of centre_at placed sphere_count sphere_at
+centres_of-inside s bodies sound bodies_sound = record {
+  count = length-map (spheres_of s) (placed bodies);
+  each = λ i lt.
+      let x = spheres_of-sound s sound i no_sphere lt in
+      let e : get_or (map (placed bodies) (spheres_of s)) i (narrowed no_vector) ≡ placed bodies (get_or (spheres_of s) i no_sphere) = get_or-map (placed bodies) (spheres_of s) i no_sphere (narrowed no_vector) lt in
+      rw e (x.centre (body_at bodies (get_or (spheres_of s) i no_sphere).clump) (bodies_sound.each (get_or (spheres_of s) i no_sphere).clump x.clump));
+}

@@ -19,3 +19,4 @@ pub mod ReadingKinds
 pub mod ReadingScene
 pub mod Frames
 pub mod Output
+pub mod Ranges

@@ -1,5 +1,5 @@
 -- The plain step: every pair is tested, each touching pair pushes, the pushes are summed, and each body advances.
-use Rattle.std.specs.Prelude.{ℕ, ◌+◌, ◌==◌, Bool, true, false, ◌&&◌, List, [], ◌∷◌, length, map, fold, find, Option, Result, Ok, Err, nat_lt, slice_index_or, unwrap_or, if◌then◌else◌}
+use Rattle.std.specs.Prelude.{ℕ, ◌+◌, ◌==◌, Bool, false, ◌&&◌, List, [], ◌∷◌, length, map, fold, find, Option, Result, Ok, Err, nat_lt, slice_index_or, unwrap_or, if◌then◌else◌}
 use Rattle.std.specs.List.{filter_map, range_with_len}
 use Rattle.std.specs.Option.{option_map}
 use Rattle.dem_num.specs.declared.vector.Vec3.{Vec3}
@@ -11,6 +11,7 @@ use Rattle.dem_model.specs.Pairs.{sphere_count, sphere_at, wall_at, all_pairs}
 use Rattle.dem_model.specs.Centres.{body_at, centres_of, touch_of}
 use Rattle.dem_model.specs.Mixing.{mixed_of}
 use Rattle.dem_model.specs.Law.{contact_of}
+use Rattle.dem_model.specs.Ranges.{wall_side_of}
 use Rattle.dem_model.specs.Advance.{mass_of, advance_of}
 use Rattle.dem_model.specs.declared.law.Law.{Law}
 use Rattle.dem_model.specs.declared.law.Load.{Load}
@@ -62,14 +63,17 @@ side_with mass b x = record {
   wall = false;
 }
 
+-- the clump of a sphere, by the number of the sphere
+abbrev pub clump_of_sphere : SceneValue → ℕ → Clump
+clump_of_sphere s i = clump_at s (sphere_at s i).clump
+
+-- the side of a sphere by its number, where its clump has this body
+unfoldable pub side_from : SceneValue → Body → ℕ → Side
+side_from s b i = side_with (mass_of s.templates (clump_of_sphere s i).t) b (sphere_at s i).ball
+
 -- the side of a sphere by its number
 unfoldable pub side_of : SceneValue → List Body → ℕ → Side
-side_of s bodies i =
-    let x = sphere_at s i in side_with (mass_of s.templates (clump_at s x.clump).t) (body_at bodies x.clump) x.ball
-
--- the side of a wall: at rest, with no lever
-unfoldable pub wall_side_of : Side
-wall_side_of = record { v = narrowed no_vector; spin = narrowed no_vector; lever = narrowed no_vector; r = 0; mass = 0; wall = true }
+side_of s bodies i = side_from s (body_at bodies (sphere_at s i).clump) i
 
 -- the second side of a pair
 unfoldable pub second_side_of : SceneValue → List Body → Pair → Side

@@ -1,4 +1,5 @@
 pub mod ProductBounds
+pub mod QuatSizes
 pub mod RootFacts
 pub mod Sizes
 pub mod VectorSizes

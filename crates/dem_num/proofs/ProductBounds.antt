@@ -30,6 +30,20 @@ two_products_le a b = elim (cases_lt a b) [
   | inr g ↦ let turned : 2 * (b * a) ≤ b * b + a * a = two_products_from b a (a - b) (omega arith) in omega arith
 ]
 
+-- a number is at most its square
+pub le_square : (a : ℕ) → a ≤ a * a
+le_square a = elim (cases_lt 0 a) [
+  | inl l ↦ let grows : 1 * a ≤ a * a = mul-le 1 a a a l (omega arith) in omega arith
+  | inr g ↦ omega arith
+]
+
+-- a common factor goes
+pub drop_factor : (a b k : ℕ) → a * k ≤ b * k → 0 < k → a ≤ b
+drop_factor a b k h p = elim (cases_lt b a) [
+  | inl l ↦ let grows : (b + 1) * k ≤ a * k = mul-le (b + 1) k a k (omega arith) (omega arith) in absurd (omega arith)
+  | inr g ↦ g
+]
+
 -- the quotient by n of m times k, where m is at most n, is at most k
 pub part_le : (m n k : ℕ) → 0 < n → m ≤ n → m * k / n ≤ k
 part_le m n k p l = let most : m * k ≤ n * k = mul-le m k n k l (omega arith) in

@@ -3,12 +3,19 @@ use Rattle.std.specs.Prelude.{ℕ, ℤ, pos, ◌+◌, ◌*◌, ◌/◌, ◌^◌,
 use Rattle.dem_num.specs.declared.vector.Wide3.{Wide3}
 use Rattle.dem_num.specs.declared.vector.Quat.{Quat}
 use Rattle.dem_num.specs.declared.vector.Rows.{Rows}
-use Rattle.dem_num.specs.Numbers.{quotient, opposite, square_of, root_of}
+use Rattle.dem_num.specs.Numbers.{quotient, opposite, square_of, root_of, AtMost}
 use Rattle.dem_num.specs.Vectors.{widened, shifted_each, dot_of, norm2_of, is_zero, Within}
 
 -- the square of a quaternion's length
 unfoldable pub quat_norm2_of : Quat → ℕ
 quat_norm2_of q = square_of q.a + square_of q.b + square_of q.c + square_of q.d
+
+-- each component is at most m in size
+pub record QuatWithin (q : Quat) (m : ℕ) : Type 0 where
+  pub a : AtMost q.a m
+  pub b : AtMost q.b m
+  pub c : AtMost q.c m
+  pub d : AtMost q.d m
 
 -- a quaternion that stands for a rotation: its length is from a half to twice that of one
 pub record IsOrientation (q : Quat) : Type 0 where

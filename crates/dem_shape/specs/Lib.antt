@@ -1,1 +1,2 @@
+pub mod Pose
 pub mod Table

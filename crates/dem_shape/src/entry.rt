@@ -1,6 +1,6 @@
 //! What the table keeps of one sphere.
 
-ghost use Rattle.std.specs.Prelude.{◌≡◌, ◌≤◌};
+ghost use Rattle.std.specs.Prelude.{◌≡◌, ◌≤◌, length};
 ghost use Rattle.dem_model.specs.Sound.{IsBall};
 ghost use Rattle.dem_model.specs.Spheres.{sphere_of};
 ghost use Rattle.dem_shape.specs.Table.{entry_of};
@@ -17,18 +17,20 @@ pub struct Entry {
     pub per_step: u64,
 }
 
-/// What the table keeps of a sphere of this clump.
-#[tactic(auto, unfolding(dem_model::specs::Motion::per_step_of))]
-pub fn entry(scene: &Scene, clump: u32, ball: Ball) -> Entry
-    requires { IsBall (length scene.now.materials) ball }
-    ensures { result ≡ entry_of scene.now (sphere_of clump ball) }
-{
-    let arm = arm(ball.at);
-    let per_step = scene.speed.div_ceil(VOXEL) + swing_limit(scene.spin, arm);
-    Entry {
-        clump,
-        ball,
-        arm,
-        per_step,
+impl Entry {
+    /// What the table keeps of a sphere of this clump.
+    #[tactic(auto, unfolding(dem_model::specs::Motion::per_step_of))]
+    pub fn new(scene: &Scene, clump: u32, ball: Ball) -> Entry
+        requires { IsBall (length scene.now.materials) ball }
+        ensures { result ≡ entry_of scene.now (sphere_of clump ball) }
+    {
+        let arm = arm(ball.at);
+        let per_step = scene.speed.div_ceil(VOXEL) + swing_limit(scene.spin, arm);
+        Entry {
+            clump,
+            ball,
+            arm,
+            per_step,
+        }
     }
 }

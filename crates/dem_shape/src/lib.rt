@@ -8,6 +8,7 @@
 
 mod centers;
 mod entry;
+mod pose;
 mod shapes;
 
 pub use centers::Centers;

@@ -3,12 +3,13 @@
 ghost use Rattle.std.specs.Prelude.{◌≡◌, ◌<◌, ◌≤◌, ◌++◌, length, map, OnOk, IfOk};
 ghost use Rattle.dem_num.specs.Vectors.{widened};
 ghost use Rattle.dem_num.specs.Rotations.{arm_of};
-ghost use Rattle.dem_model.specs.Motion.{per_step_of};
+ghost use Rattle.dem_model.specs.Motion.{per_step_of, IsSphere};
 ghost use Rattle.dem_model.specs.Pairs.{sphere_count, sphere_at};
+ghost use Rattle.dem_model.specs.Sound.{IsSound, IsBall};
 ghost use Rattle.dem_model.specs.Spheres.{spheres_of_clump};
 ghost use Rattle.dem_shape.specs.Table.{entry_of};
 
-use crate::entry::{Entry, entry};
+use crate::entry::Entry;
 use dem_model::{Ball, OutOfMemory, Scene};
 use std::alloc::Global;
 use std::marker::Model;
@@ -21,16 +22,14 @@ pub struct Shapes<'s> {
 }
 
 impl<'s> Model for Shapes<'s> {
-    ghost use Rattle.std.specs.Prelude.{◌≡◌, map};
     ghost use Rattle.dem_model.specs.SceneValue.{SceneValue};
-    ghost use Rattle.dem_model.specs.Spheres.{spheres_of};
-    ghost use Rattle.dem_shape.specs.Table.{entry_of};
+    ghost use Rattle.dem_shape.specs.Table.{IsTable};
 
     ghost Value = { SceneValue };
 
     ghost view = { λ a. a.scene.now };
 
-    ghost invariant = { λ a. a.entries.items ≡ map (entry_of a.scene.now) (spheres_of a.scene.now) };
+    ghost invariant = { λ a. IsTable a.scene.now a.entries.items };
 }
 
 impl<'s> Shapes<'s> {
@@ -39,15 +38,16 @@ impl<'s> Shapes<'s> {
         ensures { IfOk result (λ x. x ≡ scene.now) }
     {
         let mut entries = Vec::new(alloc);
-        for (k, clump) in scene.clumps.as_slice().iter().enumerate() {
-            add_clump(&mut entries, scene, k as u32, clump.t)?;
+        for k in 0..scene.clumps.len() {
+            add_clump(&mut entries, scene, k as u32, scene.clumps.get(k).t)?;
         }
         Ok(Shapes { scene, entries })
     }
 
     /// The scene.
     pub fn scene(&self) -> &Scene
-        ensures { result.now ≡ self.now }
+        ensures value { result.now ≡ self.now }
+        ensures sound { IsSound self.now }
     {
         self.scene
     }
@@ -63,7 +63,8 @@ impl<'s> Shapes<'s> {
     pub fn walls(&self) -> u32
         ensures { result ≡ length self.now.walls }
     {
-        self.scene.walls.len() as u32
+        let scene = self.scene;
+        scene.walls.len() as u32
     }
 
     /// The clump of a sphere.
@@ -72,15 +73,16 @@ impl<'s> Shapes<'s> {
         ensures value { result ≡ (sphere_at self.now s).clump }
         ensures within { result < length self.now.clumps }
     {
-        self.entries[s as usize].clump
+        self.entry(s).clump
     }
 
     /// What the template says of a sphere.
     pub fn ball_of(&self, s: u32) -> Ball
         requires { s < sphere_count self.now }
-        ensures { result ≡ (sphere_at self.now s).ball }
+        ensures value { result ≡ (sphere_at self.now s).ball }
+        ensures within { IsBall (length self.now.materials) result }
     {
-        self.entries[s as usize].ball
+        self.entry(s).ball
     }
 
     /// The arm of a sphere, in u.
@@ -88,7 +90,7 @@ impl<'s> Shapes<'s> {
         requires { s < sphere_count self.now }
         ensures { result ≡ arm_of (widened (sphere_at self.now s).ball.at) }
     {
-        self.entries[s as usize].arm
+        self.entry(s).arm
     }
 
     /// How far a sphere may move in one step per axis, in u: with its clump at the speed limit, and by the swing of its arm.
@@ -96,7 +98,16 @@ impl<'s> Shapes<'s> {
         requires { s < sphere_count self.now }
         ensures { result ≡ per_step_of self.now (sphere_at self.now s).ball }
     {
-        self.entries[s as usize].per_step
+        self.entry(s).per_step
+    }
+
+    /// What the table keeps of a sphere.
+    fn entry(&self, s: u32) -> Entry
+        requires { s < sphere_count self.now }
+        ensures value { result ≡ entry_of self.now (sphere_at self.now s) }
+        ensures sound { IsSphere self.now (sphere_at self.now s) }
+    {
+        self.entries[s as usize]
     }
 }
 
@@ -106,7 +117,7 @@ fn add_clump(entries: &mut Vec<Entry>, scene: &Scene, clump: u32, t: u32) -> Res
     ensures { OnOk result (entries.new.items ≡ entries.old.items ++ map (entry_of scene.now) (spheres_of_clump scene.now.templates clump t)) }
 {
     for ball in scene.templates.get(t as usize).balls.as_slice() {
-        if entries.push(entry(scene, clump, *ball)).is_err() {
+        if entries.push(Entry::new(scene, clump, *ball)).is_err() {
             return Err(OutOfMemory);
         }
     }

@@ -7,6 +7,7 @@
 
 mod reach;
 mod rows;
+mod stepping;
 #[cfg(test)]
 mod tests;
 mod turning;
@@ -14,4 +15,5 @@ mod turning;
 pub use dem_num::Rows;
 pub use reach::{arm, swing_limit};
 pub use rows::matrix;
-pub use turning::{turned, turned_back};
+pub use stepping::turn_step;
+pub use turning::{turned, turned_back, turned_spin};

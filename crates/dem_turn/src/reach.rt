@@ -25,7 +25,8 @@ pub fn arm(o: Vec3) -> u64
 pub fn swing_limit(spin: u64, arm: u64) -> u64
     requires spin_small { spin ≤ 2 ^ 28 }
     requires arm_small { arm ≤ 2 ^ 27 }
-    ensures { result ≡ swing_limit_of spin arm }
+    ensures value { result ≡ swing_limit_of spin arm }
+    ensures size { result ≤ 2 ^ 27 }
 {
     2 * spin * arm / (1 << 30) + arm / (1 << 24) + 8
 }

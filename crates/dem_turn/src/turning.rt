@@ -23,6 +23,22 @@ pub fn turned(m: &Rows, o: Vec3) -> Vec3
     }
 }
 
+/// A spin of body axes in world axes.
+#[tactic(auto, unfolding(dem_num::specs::Rotations::turned_by))]
+pub fn turned_spin(m: &Rows, w: Vec3) -> Vec3
+    requires entries { EntriesWithin m.now (2 ^ 30) }
+    requires spin { Within (widened w) (2 ^ 28) }
+    ensures value { widened result ≡ turned_by m.now (widened w) }
+    ensures size { Within (widened result) (2 ^ 30) }
+{
+    let w = widen(w);
+    Vec3 {
+        x: narrow(along(m.x, w)),
+        y: narrow(along(m.y, w)),
+        z: narrow(along(m.z, w)),
+    }
+}
+
 /// A vector of world axes in body axes.
 #[tactic(auto, unfolding(dem_num::specs::Rotations::turned_back_by))]
 pub fn turned_back(m: &Rows, t: Wide3) -> Wide3
@@ -53,12 +69,13 @@ pub fn turned_back(m: &Rows, t: Wide3) -> Wide3
     }
 }
 
-/// The component of an offset along a row of the matrix.
+/// The component of an offset or a spin along a row of the matrix.
 fn along(row: Vec3, o: Wide3) -> i128
     requires entries { Within (widened row) (2 ^ 30) }
-    requires offset { Within o (2 ^ 26) }
+    requires vector { Within o (2 ^ 28) }
     ensures value { result ≡ shifted (dot_of (widened row) o) 30 }
-    ensures size { AtMost result (2 ^ 28) }
+    ensures size { AtMost result (2 ^ 30) }
+    ensures offset { Within o (2 ^ 26) → AtMost result (2 ^ 28) }
 {
     sh(dot(row, o), 30)
 }

@@ -1,0 +1,2 @@
+pub mod DirectionFacts
+pub mod PlaneFacts

@@ -1,1 +1,2 @@
 pub mod RangeFacts
+pub mod TouchFacts

@@ -10,8 +10,13 @@ mod mixing;
 mod motion;
 mod normal;
 mod push;
+mod sides;
 mod sliding;
+mod spheres;
+mod touching;
 
 pub use dem_model::{Law, Push, Side, Touch};
 pub use law::contact;
 pub use mixing::{mix, wall_side};
+pub use sides::{law_between, push_between, side_of};
+pub use touching::touch;

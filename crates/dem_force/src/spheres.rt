@@ -1,0 +1,101 @@
+//! How two spheres touch: along the line of their centres, as deep as their radii reach over it.
+
+ghost use Rattle.std.specs.Prelude.{◌≡◌, pos, ◌*◌, ◌^◌, ◌<◌, ◌≤◌, ◌-ℤ◌, ◌*ℤ◌, IfSome, unsigned_abs};
+ghost use Rattle.dem_num.specs.Numbers.{AtMost, quotient, root_of};
+ghost use Rattle.dem_num.specs.Vectors.{widened, Within, norm2_of};
+ghost use Rattle.dem_model.specs.Ranges.{IsTouch};
+ghost use Rattle.dem_model.specs.Sound.{IsBetween};
+ghost use Rattle.dem_model.specs.Touch.{normal_of, spheres_touch};
+ghost use Rattle.dem_model.specs.declared.limits.TheConstants.{UNIT, MAX_OVERLAP};
+
+use dem_model::{Touch, UNIT};
+use dem_num::{Vec3, Wide3, mul, narrow, norm2, root, tdiv};
+
+/// How two spheres touch, from the centre of the first less that of the second and their radii together, in u.
+#[tactic(auto, unfolding(dem_model::specs::Touch::spheres_touch))]
+pub fn touch_spheres(d: Wide3, radii: u64) -> Option<Touch>
+    requires near { Within d (2 ^ 37) }
+    requires radii_small { radii ≤ 2 ^ 27 }
+    ensures value { result ≡ spheres_touch d radii }
+    ensures ranges { IfSome result IsTouch }
+{
+    let distance2 = norm2(d);
+    if distance2 < radii as u128 * radii as u128 {
+        let distance = root(distance2);
+        Some(Touch {
+            n: normal(d, distance),
+            delta: overlap(radii, distance),
+        })
+    } else {
+        None
+    }
+}
+
+/// How far radii reach over a distance.
+fn overlap(radii: u64, distance: u64) -> i64
+    requires radii_small { radii ≤ 2 ^ 27 }
+    requires close { distance < radii }
+    ensures value { result ≡ pos radii -ℤ pos distance }
+    ensures range { IsBetween (pos 1) (pos MAX_OVERLAP) result }
+{
+    radii as i64 - distance as i64
+}
+
+/// The direction of a difference of centres, times 2^30; along x where the centres are one.
+#[tactic(auto, unfolding(dem_model::specs::Touch::normal_of))]
+fn normal(d: Wide3, distance: u64) -> Vec3
+    requires length { distance ≡ root_of (norm2_of d) }
+    requires near { distance ≤ 2 ^ 38 }
+    ensures value { result ≡ normal_of d }
+    ensures size { Within (widened result) (2 ^ 30) }
+{
+    if distance == 0 {
+        Vec3 {
+            x: UNIT as i64,
+            y: 0,
+            z: 0,
+        }
+    } else {
+        direction(d, distance)
+    }
+}
+
+/// Each component over the length, times 2^30.
+#[tactic(auto, using(crate::proofs::TouchFacts::part_x, crate::proofs::TouchFacts::part_y, crate::proofs::TouchFacts::part_z))]
+fn direction(d: Wide3, distance: u64) -> Vec3
+    requires length { distance ≡ root_of (norm2_of d) }
+    requires some { 0 < distance }
+    requires near { distance ≤ 2 ^ 38 }
+    ensures x { result.x ≡ quotient (pos UNIT *ℤ d.x) (pos distance) }
+    ensures y { result.y ≡ quotient (pos UNIT *ℤ d.y) (pos distance) }
+    ensures z { result.z ≡ quotient (pos UNIT *ℤ d.z) (pos distance) }
+    ensures size { Within (widened result) (2 ^ 30) }
+{
+    Vec3 {
+        x: part(d.x, distance),
+        y: part(d.y, distance),
+        z: part(d.z, distance),
+    }
+}
+
+/// A component over the length, times 2^30.
+fn part(e: i128, distance: u64) -> i64
+    requires some { 0 < distance }
+    requires part { unsigned_abs e ≤ distance }
+    requires near { distance ≤ 2 ^ 38 }
+    ensures value { result ≡ quotient (pos UNIT *ℤ e) (pos distance) }
+    ensures size { AtMost result (2 ^ 30) }
+{
+    narrow(wide_part(e, distance))
+}
+
+/// A component over the length, times 2^30, at 128 bits.
+fn wide_part(e: i128, distance: u64) -> i128
+    requires some { 0 < distance }
+    requires part { unsigned_abs e ≤ distance }
+    requires near { distance ≤ 2 ^ 38 }
+    ensures value { result ≡ quotient (pos UNIT *ℤ e) (pos distance) }
+    ensures size { AtMost result (2 ^ 30) }
+{
+    tdiv(mul(UNIT as i128, e), distance as i128)
+}

@@ -27,8 +27,8 @@ one_if-le true = omega arith
 one_if-le false = omega arith
 
 -- a few times all, and all a few times, is within the bound
-bounded : (k n w x : ℕ) → k ≤ 16 → n ≤ 32768 → w ≤ 64 → x ≤ k * (n + w) + n * 16 → x ≤ 2 ^ 21
-bounded k n w x few spheres walls h = omega (arith, mul-le k (n + w) 16 32832 few (omega arith))
+bounded : (k n limit x : ℕ) → k ≤ 16 → n ≤ 32768 → limit ≤ 32832 → x ≤ k * limit + n * 16 → x ≤ 2 ^ 21
+bounded k n limit x few spheres all h = omega (arith, mul-le k limit 16 32832 few all)
 
 -- ---- a clump's spheres
 
@@ -170,26 +170,46 @@ row_count-other s c a (suc b) ne =
       | inr ge ↦ omega (arith, row_count-other s c a b ne, one_apart-le s c a b, involves-wall s c a b ne ge, own_below-past s c b ge)
     ])
 
+-- the pairs go on with a part of the next row
+row_step : (s : SceneValue) (c a b : ℕ) → IsSound s → a < sphere_count s → b ≤ limit_of s →
+    pair_count s c (pairs_below s a) ≤ own_below s c a * limit_of s + a * 16 →
+    pair_count s c (pairs_below s a ++ row_below s a b) ≤ own_below s c (a + 1) * limit_of s + (a + 1) * 16
+row_step s c a b sound lt le before =
+    rw (pair_count-append s c (pairs_below s a) (row_below s a b), own_below-more s c a lt)
+    (elim (cases_eq (sphere_at s a).clump c) [
+      | inl e ↦ rw (eq-eqb (sphere_at s a).clump c e) (omega (arith, before, row_count-le s c a b))
+      | inr ne ↦ rw (ne_eqb (sphere_at s a).clump c ne) (omega (arith, before, row_count-other s c a b ne, own_below-le s c b sound))
+    ])
+
 -- the pairs of the spheres below a
 rows_count-le : (s : SceneValue) (c a : ℕ) → IsSound s → a ≤ sphere_count s → pair_count s c (pairs_below s a) ≤ own_below s c a * limit_of s + a * 16
 rows_count-le s c zero sound h = rw (pairs_below-none s) (unfold pair_count in omega arith)
 rows_count-le s c (suc a) sound h =
     let more : pairs_below s (a + 1) ≡ pairs_below s a ++ row_below s a (limit_of s) = pairs_below-more s a in
-    let ih : pair_count s c (pairs_below s a) ≤ own_below s c a * limit_of s + a * 16 = rows_count-le s c a sound (omega arith) in
-    rw (← add-one, more, pair_count-append s c (pairs_below s a) (row_below s a (limit_of s)), own_below-more s c a (omega arith))
-    (elim (cases_eq (sphere_at s a).clump c) [
-      | inl e ↦ rw (eq-eqb (sphere_at s a).clump c e) (omega (arith, ih, row_count-le s c a (limit_of s)))
-      | inr ne ↦ rw (ne_eqb (sphere_at s a).clump c ne) (omega (arith, ih, row_count-other s c a (limit_of s) ne, own_below-le s c (limit_of s) sound))
-    ])
+    let step : pair_count s c (pairs_below s a ++ row_below s a (limit_of s)) ≤ own_below s c (a + 1) * limit_of s + (a + 1) * 16 =
+    row_step s c a (limit_of s) sound (omega arith) (omega arith) (rows_count-le s c a sound (omega arith)) in
+    let whole : pair_count s c (pairs_below s (a + 1)) ≤ own_below s c (a + 1) * limit_of s + (a + 1) * 16 = rw more step in
+    subst (λ n. pair_count s c (pairs_below s n) ≤ own_below s c n * limit_of s + n * 16) (add-one a) whole
 
 -- no clump has more pairs than this
 abbrev pub most_pairs : ℕ
 most_pairs = 2 ^ 21
 
+few_pairs : (s : SceneValue) (c a x : ℕ) → IsSound s → a ≤ sphere_count s → x ≤ own_below s c a * limit_of s + a * 16 → x ≤ most_pairs
+unfolding limit_of sphere_count
+few_pairs s c a x sound le h =
+    let count : a ≤ 32768 = omega (arith, sound.sphere_count) in
+    let limit : length (spheres_of s) + length s.walls ≤ 32832 = omega (arith, sound.sphere_count, sound.wall_count) in
+    bounded (own_below s c a) a (length (spheres_of s) + length s.walls) x (own_below-le s c a sound) count limit h
+
 pub pair_count-all : (s : SceneValue) (c : ℕ) → IsSound s → pair_count s c (all_pairs s) ≤ most_pairs
-unfolding all_pairs limit_of sphere_count
+unfolding all_pairs
 pair_count-all s c sound =
-    let few : own_below s c (length (spheres_of s)) ≤ 16 = own_below-le s c (length (spheres_of s)) sound in
-    let rows : pair_count s c (pairs_below s (length (spheres_of s))) ≤ own_below s c (length (spheres_of s)) * (length (spheres_of s) + length s.walls) + length (spheres_of s) * 16 =
-    rows_count-le s c (length (spheres_of s)) sound (omega arith) in
-    bounded (own_below s c (length (spheres_of s))) (length (spheres_of s)) (length s.walls) (pair_count s c (pairs_below s (length (spheres_of s)))) few sound.sphere_count sound.wall_count rows
+    few_pairs s c (sphere_count s) (pair_count s c (pairs_below s (sphere_count s))) sound (omega arith) (rows_count-le s c (sphere_count s) sound (omega arith))
+
+-- no clump has more than that among the pairs before some place
+pub pair_count-visited : (s : SceneValue) (c a b : ℕ) → IsSound s → a < sphere_count s → b ≤ limit_of s →
+    pair_count s c (pairs_below s a ++ row_below s a b) ≤ most_pairs
+pair_count-visited s c a b sound lt le =
+    let step = row_step s c a b sound lt le (rows_count-le s c a sound (omega arith)) in
+    few_pairs s c (a + 1) (pair_count s c (pairs_below s a ++ row_below s a b)) sound (omega arith) step

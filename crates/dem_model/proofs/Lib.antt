@@ -2,3 +2,4 @@ pub mod SphereFacts
 pub mod SoundFacts
 pub mod PairFacts
 pub mod CountFacts
+pub mod LoadFacts

@@ -1,2 +1,5 @@
+pub mod AdvanceFacts
+pub mod LimitFacts
 pub mod RangeFacts
 pub mod TouchFacts
+pub mod SumFacts

@@ -67,12 +67,12 @@ abbrev pub whole : Data → Option ℤ
 whole d = option_and_then as_i64 (as_number d)
 
 -- whether a number is from low to high
-abbrev pub from_to : ℕ → ℕ → ℤ → Bool
+unfoldable pub from_to : ℕ → ℕ → ℤ → Bool
 from_to low high (pos n) = nat_le low n && nat_le n high
 from_to low high (negsuc n) = false
 
 -- whether a number is at most m in size
-abbrev pub at_most : ℕ → ℤ → Bool
+unfoldable pub at_most : ℕ → ℤ → Bool
 at_most m z = nat_le (unsigned_abs z) m
 
 -- a whole number
@@ -94,7 +94,7 @@ unfoldable pub number_or : List ℕ → ℕ → ℕ → Spot → Data → Result
 number_or name low high at d = optional 0 (number_of low high at) (get name d)
 
 -- whether a number is a place of a list of that length
-abbrev pub below : ℕ → ℤ → Bool
+unfoldable pub below : ℕ → ℤ → Bool
 below count (pos n) = nat_lt n count
 below count (negsuc n) = false
 
@@ -120,14 +120,6 @@ abbrev pub counted : ℕ → ℕ → Spot → Option Items → Result Items Scen
 counted low high at None = Err (Field at)
 counted low high at (Some ds) = if_so (Count at) (nat_le low (count_of ds) && nat_le (count_of ds) high) ds
 
--- a list under its name, from low to high in length
-unfoldable pub items_at : List ℕ → ℕ → ℕ → Spot → Data → Result Items SceneFault
-items_at name low high at d = required at (λ v. counted low high at (as_array v)) (get name d)
-
--- a list under its name, or no element
-unfoldable pub items_or : List ℕ → ℕ → ℕ → Spot → Data → Result Items SceneFault
-items_or name low high at d = optional no_items (λ v. counted low high at (as_array v)) (get name d)
-
 -- what is read of each element, numbered from i on, or the fault of the first element that has one
 unfoldable pub each_from : {A : Type 0} → (ℕ → Data → Result A SceneFault) → ℕ → Items → Result (List A) SceneFault
 each_from read i no_items = Ok []
@@ -136,14 +128,16 @@ each_from read i (item d ds) = do
   xs ← each_from read (i + 1) ds
   Ok (x ∷ xs)
 
+-- a list from low to high in length, and what is read of each element
+unfoldable pub list_of : {A : Type 0} → ℕ → ℕ → Spot → (ℕ → Data → Result A SceneFault) → Data → Result (List A) SceneFault
+list_of low high at read d = do
+  ds ← counted low high at (as_array d)
+  each_from read 0 ds
+
 -- a list under its name, and what is read of each element
 unfoldable pub list_at : {A : Type 0} → List ℕ → ℕ → ℕ → Spot → (ℕ → Data → Result A SceneFault) → Data → Result (List A) SceneFault
-list_at name low high at read d = do
-  ds ← items_at name low high at d
-  each_from read 0 ds
+list_at name low high at read d = required at (list_of low high at read) (get name d)
 
 -- a list that may be left out, and what is read of each element
 unfoldable pub list_or : {A : Type 0} → List ℕ → ℕ → ℕ → Spot → (ℕ → Data → Result A SceneFault) → Data → Result (List A) SceneFault
-list_or name low high at read d = do
-  ds ← items_or name low high at d
-  each_from read 0 ds
+list_or name low high at read d = optional [] (list_of low high at read) (get name d)

@@ -4,7 +4,7 @@ use Rattle.std.specs.List.{list_all}
 use Rattle.std.specs.Str.{is_utf8}
 use Rattle.serde_json.specs.Data.{Data}
 use Rattle.serde_json.specs.Read.{read}
-use Rattle.serde_json.specs.Find.{get}
+use Rattle.serde_json.specs.Find.{get, as_array}
 use Rattle.dem_num.specs.Vectors.{widened}
 use Rattle.dem_model.specs.declared.fault.Spot.{Spot}
 use Rattle.dem_model.specs.declared.fault.Name.TheVariants as names
@@ -18,7 +18,7 @@ use Rattle.dem_model.specs.declared.limits.TheConstants.{MAX_TEXT, MAX_VOXELS, M
 use Rattle.dem_model.specs.SceneValue.{SceneValue}
 use Rattle.dem_model.specs.Position.{in_box}
 use Rattle.dem_model.specs.Spheres.{balls_of, centre_of}
-use Rattle.dem_model.specs.Reading.{◌>>=◌, spot, unless, required, from_to, at_most, whole_of, check_object, number_at, items_at, list_at, list_or}
+use Rattle.dem_model.specs.Reading.{◌>>=◌, spot, unless, required, from_to, at_most, whole_of, check_object, number_at, counted, list_at, list_or}
 use Rattle.dem_model.specs.ReadingVectors.{each_is, vector_at, vector_or}
 use Rattle.dem_model.specs.ReadingKinds.{material_of, template_of, greatest_radius, wall_of, clumps_from}
 
@@ -39,11 +39,15 @@ version_of at d = do
 unfoldable pub check_version : Data → Result ⊤ SceneFault
 check_version d = required (spot names.Version 0 0) (version_of (spot names.Version 0 0)) (get (codes "version") d)
 
--- the clumps
-unfoldable pub clumps_at : List Template → Data → Result (List Clump) SceneFault
-clumps_at templates d = do
-  ds ← items_at (codes "clumps") 1 MAX_CLUMPS (spot names.Clumps 0 0) d
+-- the clumps: a list, read one after the other
+unfoldable pub clumps_of : List Template → Spot → Data → Result (List Clump) SceneFault
+clumps_of templates at d = do
+  ds ← counted 1 MAX_CLUMPS at (as_array d)
   clumps_from templates 0 0 ds
+
+-- the clumps, under their name
+unfoldable pub clumps_at : List Template → Data → Result (List Clump) SceneFault
+clumps_at templates d = required (spot names.Clumps 0 0) (clumps_of templates (spot names.Clumps 0 0)) (get (codes "clumps") d)
 
 -- the scene that the table gives, whatever the speeds and the places of its clumps
 unfoldable pub table_of : Data → Result SceneValue SceneFault
@@ -81,9 +85,13 @@ table_of d = do
 unfoldable pub in_limits : SceneValue → Body → Bool
 in_limits s b = each_is (at_most s.speed) b.v && each_is (at_most s.spin) b.w
 
+-- whether the centre of each sphere lies in the box
+unfoldable pub centres_inside : SceneValue → Body → List Ball → Bool
+centres_inside s b balls = list_all (λ ball. in_box s (centre_of b ball)) balls
+
 -- whether a body and the centre of each sphere lie in the box
 unfoldable pub is_inside : SceneValue → Body → List Ball → Bool
-is_inside s b balls = in_box s (widened b.p) && list_all (λ ball. in_box s (centre_of b ball)) balls
+is_inside s b balls = in_box s (widened b.p) && centres_inside s b balls
 
 -- a clump that is within the limits, and then inside the box
 unfoldable pub check_clump : SceneValue → ℕ → Clump → Result ⊤ SceneFault

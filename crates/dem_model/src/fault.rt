@@ -1,5 +1,7 @@
 //! Why a scene text is refused, and at which place.
 
+use crate::list::OutOfMemory;
+
 /// A name of the scene text, or of a place in it.
 #[derive(Clone, Copy, PartialEq, Debug)]
 pub enum Name {
@@ -76,4 +78,15 @@ pub enum SceneFault {
     OutsideBox { clump: u32 },
     /// Memory was refused.
     OutOfMemory,
+}
+
+impl From<OutOfMemory> for SceneFault {
+    ghost use Rattle.std.specs.Prelude.{◌≡◌};
+    ghost use Rattle.dem_model.specs.declared.fault.SceneFault.TheVariants as faults;
+
+    ghost from_gives = { λ _ fault. fault ≡ faults.OutOfMemory };
+
+    fn from(_: OutOfMemory) -> SceneFault {
+        SceneFault::OutOfMemory
+    }
 }

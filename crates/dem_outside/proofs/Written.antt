@@ -40,8 +40,8 @@ pub Written-failed : (old mid now : Option (List ℕ)) (piece rest text : List �
 Written-failed old mid now piece rest text before front =
     let all : (before.front ++ front.0) ++ (front.1 ++ rest) ≡ text =
     append_assoc before.front front.0 (front.1 ++ rest)
-        ∙ ap (λ (l : List ℕ). before.front ++ l) (sym (append_assoc front.0 front.1 rest) ∙ ap (λ (l : List ℕ). l ++ rest) front.2)
-        ∙ before.whole in
+    ∙ ap (λ (l : List ℕ). before.front ++ l) (sym (append_assoc front.0 front.1 rest) ∙ ap (λ (l : List ℕ). l ++ rest) front.2)
+    ∙ before.whole in
     (before.front ++ front.0, front.1 ++ rest, all, Appends-trans old mid now before.front front.0 before.appended front.3)
 
 -- all of the text was written

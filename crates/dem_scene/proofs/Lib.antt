@@ -1,0 +1,7 @@
+pub mod Trees
+pub mod GivesFacts
+pub mod Elements
+pub mod ClumpFacts
+pub mod TableFacts
+pub mod PlaceFacts
+pub mod JsonFacts

@@ -1,0 +1,4 @@
+pub mod Gives
+pub mod Walls
+pub mod Clumps
+pub mod Table

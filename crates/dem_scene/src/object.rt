@@ -1,0 +1,72 @@
+//! Objects of a scene text: only the names that their tables have.
+
+ghost use Rattle.std.specs.Prelude.{◌≡◌, string_bytes};
+ghost use Rattle.std.specs.List.{list_all};
+ghost use Rattle.std.specs.BTreeMap.{keys};
+ghost use Rattle.serde_json.specs.View.{view};
+ghost use Rattle.dem_model.specs.Reading.{is_among, check_object};
+ghost use Rattle.dem_model.specs.ReadingNames.{names_of};
+
+use dem_model::{Name, SceneFault, Spot};
+use serde_json::{Map, Value};
+
+/// Whether the object at a place may have a name.
+#[tactic(auto, unfolding(dem_model::specs::Reading::is_among, dem_model::specs::ReadingNames::names_of))]
+fn is_known(object: Name, name: &str) -> bool
+    ensures { result ≡ is_among (names_of object) name.now }
+{
+    match object {
+        Name::Scene => is_scene_name(name),
+        Name::Materials => matches!(name, "kn" | "kt" | "bn" | "bt" | "mu"),
+        Name::Templates => matches!(name, "mass" | "moments" | "spheres"),
+        Name::TemplatesSpheres => matches!(name, "at" | "r" | "mat"),
+        Name::Walls => matches!(name, "plane" | "cylinder" | "mat"),
+        Name::WallsPlane => matches!(name, "at" | "dir"),
+        Name::WallsCylinder => matches!(name, "axis" | "at" | "r"),
+        Name::Clumps => matches!(name, "t" | "p" | "v" | "q" | "w"),
+        _ => false,
+    }
+}
+
+/// Whether the scene object may have a name.
+#[tactic(auto, unfolding(dem_model::specs::Reading::is_among, dem_model::specs::ReadingNames::names_of))]
+fn is_scene_name(name: &str) -> bool
+    ensures { result ≡ is_among (names_of Name.Scene) name.now }
+{
+    matches!(
+        name,
+        "version"
+            | "box"
+            | "steps"
+            | "every"
+            | "speed"
+            | "spin"
+            | "gravity"
+            | "materials"
+            | "templates"
+            | "walls"
+            | "clumps"
+    )
+}
+
+/// Whether the object at a place may have each name of a map.
+fn all_known(object: Name, members: &Map<String, Value>) -> bool
+    ensures { result ≡ list_all (λ k. is_among (names_of object) (string_bytes k)) (keys members.now) }
+{
+    members.keys().all(|name| is_known(object, name.as_str()))
+}
+
+/// An object, with no name that its table doesn't have.
+#[tactic(auto, using(crate::proofs::Trees::all_names), unfolding(dem_model::specs::Reading::check_object))]
+pub(crate) fn check(value: &Value, at: Spot) -> Result<(), SceneFault>
+    ensures { result ≡ check_object at (view value.now) }
+{
+    let Some(members) = value.as_object() else {
+        return Err(SceneFault::Field { which: at });
+    };
+    if all_known(at.name, members) {
+        Ok(())
+    } else {
+        Err(SceneFault::Unknown { which: at })
+    }
+}

@@ -48,13 +48,13 @@ pub Holds-missed : (s : SceneValue) (bodies : List Body) (centres : List Vec3) (
     (ps : List Pair) → Holds s bodies centres held ps met → Holds s bodies centres held (ps ++ one_apart s p) met
 Holds-missed s bodies centres held p met e none ps h =
     let same : meetings s bodies centres held ps ≡ meetings s bodies centres held (ps ++ p ∷ []) =
-      sym (append-nil (meetings s bodies centres held ps))
-      ∙ ap (λ o. meetings s bodies centres held ps ++ cons_option o []) (sym none)
-      ∙ sym (meetings-push s bodies centres held ps p) in
+    sym (append-nil (meetings s bodies centres held ps))
+    ∙ ap (λ o. meetings s bodies centres held ps ++ cons_option o []) (sym none)
+    ∙ sym (meetings-push s bodies centres held ps p) in
     rw e (record {
       sums = h.sums ∙ ap (loads_of s) same;
       kept = h.kept ∙ ap (map held_in) same;
-      small = subst (λ ms. All (λ (m : Meeting). IsSmall m.push) ms) same h.small
+      small = subst (λ ms. All (λ (m : Meeting). IsSmall m.push) ms) same h.small;
     })
 
 -- a pair that touches adds its push and what is held of it
@@ -65,19 +65,19 @@ pub Holds-more : (s : SceneValue) (bodies : List Body) (centres : List Vec3) (he
     (ps : List Pair) → Holds s bodies centres held ps old → Holds s bodies centres held (ps ++ one_apart s p) new
 Holds-more s bodies centres held p push old new e some small loads kept ps h =
     let more : meetings s bodies centres held ps ++ meeting_with p push ∷ [] ≡ meetings s bodies centres held (ps ++ p ∷ []) =
-      ap (λ o. meetings s bodies centres held ps ++ cons_option o []) (sym some) ∙ sym (meetings-push s bodies centres held ps p) in
+    ap (λ o. meetings s bodies centres held ps ++ cons_option o []) (sym some) ∙ sym (meetings-push s bodies centres held ps p) in
     rw e (record {
       sums = loads ∙ ap (λ ws. loads_with s ws (meeting_with p push)) h.sums ∙ sym (loads_of-push s (meetings s bodies centres held ps) (meeting_with p push)) ∙ ap (loads_of s) more;
       kept = kept ∙ ap (λ es. es ++ held_in (meeting_with p push) ∷ []) h.kept ∙ sym (map_push held_in (meetings s bodies centres held ps) (meeting_with p push)) ∙ ap (map held_in) more;
-      small = subst (λ ms. All (λ (m : Meeting). IsSmall m.push) ms) more (All-push (λ (m : Meeting). IsSmall m.push) (meetings s bodies centres held ps) (meeting_with p push) h.small small)
+      small = subst (λ ms. All (λ (m : Meeting). IsSmall m.push) ms) more (All-push (λ (m : Meeting). IsSmall m.push) (meetings s bodies centres held ps) (meeting_with p push) h.small small);
     })
 
 -- a load of at most so many contacts is within the bounds
 can_grow : (w : Load) → IsLoadOf most_pairs w → CanGrow w
 can_grow w h = record {
-    force = within_wider w.force (most_pairs * 2 ^ 63) (2 ^ 84) h.force (omega arith);
-    torque = within_wider w.torque (most_pairs * 2 ^ 93) (2 ^ 114) h.torque (omega arith)
-  }
+  force = within_wider w.force (most_pairs * 2 ^ 63) (2 ^ 84) h.force (omega arith);
+  torque = within_wider w.torque (most_pairs * 2 ^ 93) (2 ^ 114) h.torque (omega arith);
+}
 
 -- the load of a clump, by its number
 load_at : (s : SceneValue) (ms : List Meeting) (c : ℕ) → c < length s.clumps → get_or (loads_of s ms) c no_load ≡ load_on s ms c
@@ -91,10 +91,10 @@ loads-within s bodies centres held ps met few h =
     record {
       count = ap length h.sums ∙ length-loads_of s (meetings s bodies centres held ps);
       each = λ c lt.
-        let here : get_or met.loads.items c no_load ≡ load_on s (meetings s bodies centres held ps) c =
+          let here : get_or met.loads.items c no_load ≡ load_on s (meetings s bodies centres held ps) c =
           ap (λ ws. get_or ws c no_load) h.sums ∙ load_at s (meetings s bodies centres held ps) c lt in
-        subst CanGrow (sym here) (can_grow (load_on s (meetings s bodies centres held ps) c)
-          (load_on-within s c (meetings s bodies centres held ps) h.small (omega (arith, meetings_count s bodies centres held c ps, few c))))
+          subst CanGrow (sym here) (can_grow (load_on s (meetings s bodies centres held ps) c)
+          (load_on-within s c (meetings s bodies centres held ps) h.small (omega (arith, meetings_count s bodies centres held c ps, few c))));
     }
 
 -- the loads before some place of all pairs are within the bounds
@@ -113,7 +113,7 @@ pub Holds-row : (s : SceneValue) (bodies : List Body) (centres : List Vec3) (hel
     Holds s bodies centres held (pairs_below s a) met → Holds s bodies centres held (pairs_below s a ++ row_below s a (a + 1)) met
 Holds-row s bodies centres held a met h =
     let e : pairs_below s a ≡ pairs_below s a ++ row_below s a (a + 1) =
-      sym (append-nil (pairs_below s a)) ∙ ap (λ xs. pairs_below s a ++ xs) (sym (row_below-start s a (a + 1) (omega arith))) in
+    sym (append-nil (pairs_below s a)) ∙ ap (λ xs. pairs_below s a ++ xs) (sym (row_below-start s a (a + 1) (omega arith))) in
     subst (λ ps. Holds s bodies centres held ps met) e h
 
 -- a row goes on
@@ -122,7 +122,7 @@ pub Holds-place : (s : SceneValue) (bodies : List Body) (centres : List Vec3) (h
     Holds s bodies centres held (pairs_below s a ++ row_below s a (b + 1)) met
 Holds-place s bodies centres held a b met h =
     let e : (pairs_below s a ++ row_below s a b) ++ one_apart s (pair_of a b) ≡ pairs_below s a ++ row_below s a (b + 1) =
-      append_assoc (pairs_below s a) (row_below s a b) (one_apart s (pair_of a b)) ∙ ap (λ xs. pairs_below s a ++ xs) (sym (row_below-more s a b)) in
+    append_assoc (pairs_below s a) (row_below s a b) (one_apart s (pair_of a b)) ∙ ap (λ xs. pairs_below s a ++ xs) (sym (row_below-more s a b)) in
     subst (λ ps. Holds s bodies centres held ps met) e h
 
 -- a row ends
@@ -151,8 +151,8 @@ loads_none s zero = refl
 loads_none s (suc n) = ext_get_or no_load (replicate (suc n) no_load) (map (λ c. no_load) (range_with_len 0 (suc n)))
     (length-replicate (suc n) no_load ∙ sym (length-map-range_with_len (λ (c : ℕ). no_load) 0 (suc n)))
     (λ i lt.
-      let within : i < suc n = omega (arith, length-replicate (suc n) no_load) in
-      get_or-replicate (suc n) i no_load no_load within ∙ sym (get_or-map-range_with_len (λ (c : ℕ). no_load) 0 (suc n) i i no_load within (zero-add i)))
+    let within : i < suc n = omega (arith, length-replicate (suc n) no_load) in
+    get_or-replicate (suc n) i no_load no_load within ∙ sym (get_or-map-range_with_len (λ (c : ℕ). no_load) 0 (suc n) i i no_load within (zero-add i)))
 
 pub Holds-nothing : (s : SceneValue) (n : ℕ) (met : Met) → n ≡ length s.clumps → met.loads.items ≡ replicate n no_load → met.held ≡ [] →
     (bodies : List Body) (centres : List Vec3) (held : List Held) → Holds s bodies centres held [] met

@@ -57,10 +57,10 @@ front_joined xs b (Err e) = refl
 -- nothing has advanced yet
 pub AreAdvanced-none : (s : SceneValue) (step : ℕ) (bodies : List Body) (loads : List Load) (next : List Body) → next ≡ [] → AreAdvanced s step bodies loads 0 next
 AreAdvanced-none s step bodies loads next e = record {
-    count = ap length e;
-    front = ap (λ xs. with_front xs (advanced_from s step 0 s.clumps bodies loads)) e ∙ front_nil (advanced_from s step 0 s.clumps bodies loads);
-    each = λ j lt. absurd (omega arith)
-  }
+  count = ap length e;
+  front = ap (λ xs. with_front xs (advanced_from s step 0 s.clumps bodies loads)) e ∙ front_nil (advanced_from s step 0 s.clumps bodies loads);
+  each = λ j lt. absurd (omega arith);
+}
 
 -- the body that is read for a clump is sound for it
 pub body_sound : (s : SceneValue) (bodies : List Body) (k : ℕ) (d : Body) → AreSound s bodies → k < length s.clumps → IsBodyOf s (clump_at s k) (get_or bodies k d)
@@ -85,13 +85,14 @@ each_more : (s : SceneValue) (k : ℕ) (old new : List Body) (x : Body) → new 
 unfolding body_at
 each_more s k old new x push count sound each j below =
     elim (cases_lt j k) [
-      inl lt ↦
-        let e : get_or new j still_body ≡ get_or old j still_body = ap (λ xs. get_or xs j still_body) push ∙ get_or_append_left old (x ∷ []) still_body j (omega arith) in
-        subst (IsBodyOf s (clump_at s j)) (sym e) (each j lt)
-    | inr ge ↦
-        let same : k ≡ j = omega arith in
-        let e : get_or new j still_body ≡ x = ap (λ xs. get_or xs j still_body) push ∙ get_or_push old x still_body j (omega arith) in
-        subst (IsBodyOf s (clump_at s j)) (sym e) (subst (λ n. IsBodyOf s (clump_at s n) x) same sound) ]
+      | inl lt ↦
+          let e : get_or new j still_body ≡ get_or old j still_body = ap (λ xs. get_or xs j still_body) push ∙ get_or_append_left old (x ∷ []) still_body j (omega arith) in
+          subst (IsBodyOf s (clump_at s j)) (sym e) (each j lt)
+      | inr ge ↦
+          let same : k ≡ j = omega arith in
+          let e : get_or new j still_body ≡ x = ap (λ xs. get_or xs j still_body) push ∙ get_or_push old x still_body j (omega arith) in
+          subst (IsBodyOf s (clump_at s j)) (sym e) (subst (λ n. IsBodyOf s (clump_at s n) x) same sound)
+    ]
 
 -- one more clump has advanced
 pub AreAdvanced-more : (s : SceneValue) (step : ℕ) (bodies : List Body) (loads : List Load) (k : ℕ) (old new : List Body) (b : Body) (w : Load) (x : Body) →
@@ -104,12 +105,12 @@ AreAdvanced-more s step bodies loads k old new b w x lt lb lw ok sound push h =
     record {
       count = ap length push ∙ length_push old x ∙ omega (arith, h.count);
       front =
-        ap (λ xs. with_front xs (advanced_from s step (k + 1) (drop (k + 1) s.clumps) (drop (k + 1) bodies) (drop (k + 1) loads))) push
-        ∙ sym (front_joined old x (advanced_from s step (k + 1) (drop (k + 1) s.clumps) (drop (k + 1) bodies) (drop (k + 1) loads)))
-        ∙ ap (λ r. with_front old (joined r (advanced_from s step (k + 1) (drop (k + 1) s.clumps) (drop (k + 1) bodies) (drop (k + 1) loads)))) (sym here)
-        ∙ ap (with_front old) (sym rest)
-        ∙ h.front;
-      each = λ j below. each_more s k old new x push h.count sound h.each j below
+          ap (λ xs. with_front xs (advanced_from s step (k + 1) (drop (k + 1) s.clumps) (drop (k + 1) bodies) (drop (k + 1) loads))) push
+          ∙ sym (front_joined old x (advanced_from s step (k + 1) (drop (k + 1) s.clumps) (drop (k + 1) bodies) (drop (k + 1) loads)))
+          ∙ ap (λ r. with_front old (joined r (advanced_from s step (k + 1) (drop (k + 1) s.clumps) (drop (k + 1) bodies) (drop (k + 1) loads)))) (sym here)
+          ∙ ap (with_front old) (sym rest)
+          ∙ h.front;
+      each = λ j below. each_more s k old new x push h.count sound h.each j below;
     }
 
 -- a clump that passes a limit ends the step
@@ -154,12 +155,12 @@ pub step_made : (s : SceneValue) (st : State) (met : Met) (next : List Body) (ce
     advanced_from s (st.step + 1) 0 s.clumps st.bodies met.loads.items ≡ Ok next → AreSound s next →
     IsNext s st (record { step = st.step + 1; bodies = next; held = met.held })
 step_made s st met next centres e h ok sound = record {
-    step = step_is s st met (Ok next) centres e h ok
+  step = step_is s st met (Ok next) centres e h ok
       ∙ unfold state_with in ap (λ es. Ok (record { step = st.step + 1; bodies = next; held = es })) (sym h.kept);
-    number = refl;
-    bodies = sound;
-    held = subst AreStored (sym h.kept) (stored_from (meetings s st.bodies centres st.held (all_pairs s)) h.small)
-  }
+  number = refl;
+  bodies = sound;
+  held = subst AreStored (sym h.kept) (stored_from (meetings s st.bodies centres st.held (all_pairs s)) h.small);
+}
 
 -- the step ends where a clump passes a limit
 pub step_ends : (s : SceneValue) (st : State) (met : Met) (end : End) (centres : List Vec3) → centres ≡ centres_of s st.bodies →
@@ -184,11 +185,11 @@ plain_first s = refl
 pub first_sound : (s : SceneValue) → IsSound s → AreSound s (first_state s).bodies
 unfolding first_state body_at clump_at
 first_sound s sound = record {
-    count = length-map s.clumps (λ (c : Clump). c.body);
-    each = λ k lt.
+  count = length-map s.clumps (λ (c : Clump). c.body);
+  each = λ k lt.
       let e : get_or (map (λ (c : Clump). c.body) s.clumps) k still_body ≡ (get_or s.clumps k no_clump).body = get_or-map (λ (c : Clump). c.body) s.clumps k no_clump still_body lt in
-      subst (IsBodyOf s (get_or s.clumps k no_clump)) (sym e) (sound.clumps k no_clump lt).body
-  }
+      subst (IsBodyOf s (get_or s.clumps k no_clump)) (sym e) (sound.clumps k no_clump lt).body;
+}
 
 -- ---- what is held for a pair
 
@@ -229,23 +230,23 @@ length-centres_of s bodies = length-map (spheres_of s) (placed bodies)
 -- a run whose centres are filled is a run
 pub run_kept : (s : SceneValue) (old new : List Vec3) (st : State) (bodies : List Body) → IsRun s old st → new ≡ centres_of s bodies → IsRun s new st
 run_kept s old new st bodies run e = record {
-    scene = run.scene;
-    room = ap length e ∙ length-centres_of s bodies;
-    plain = run.plain;
-    bodies = run.bodies;
-    held = run.held
-  }
+  scene = run.scene;
+  room = ap length e ∙ length-centres_of s bodies;
+  plain = run.plain;
+  bodies = run.bodies;
+  held = run.held;
+}
 
 -- a run goes on with the next state
 pub run_next : (s : SceneValue) (old new : List Vec3) (st next : State) (bodies : List Body) → IsRun s old st → new ≡ centres_of s bodies →
     st.step < s.steps → IsNext s st next → IsRun s new next
 run_next s old new st next bodies run e lt h = record {
-    scene = run.scene;
-    room = ap length e ∙ length-centres_of s bodies;
-    plain = plain_next s st next run.plain lt h;
-    bodies = h.bodies;
-    held = h.held
-  }
+  scene = run.scene;
+  room = ap length e ∙ length-centres_of s bodies;
+  plain = plain_next s st next run.plain lt h;
+  bodies = h.bodies;
+  held = h.held;
+}
 
 -- the first state, put together
 pub first_is : (s : SceneValue) (bodies : List Body) (held : List Held) → bodies ≡ (first_state s).bodies → held ≡ [] →
@@ -266,7 +267,7 @@ run_first s shapes centres bodies held same sound room e none =
       room = room;
       plain = plain_first shapes ∙ ap Some (sym (first_is shapes bodies held here none));
       bodies = subst (AreSound shapes) (sym here) (first_sound shapes sound);
-      held = subst AreStored (sym none) (All-nil (λ (x : Held). Within (widened x.h) (2 ^ 40)))
+      held = subst AreStored (sym none) (All-nil (λ (x : Held). Within (widened x.h) (2 ^ 40)));
     }
 
 -- the meetings, over the state that their lists are of
@@ -282,9 +283,9 @@ pub next_made : (s : SceneValue) (st : State) (met : Met) (bodies next : List Bo
     IsNext s st (record { step = st.step + 1; bodies = next; held = met.held })
 next_made s st met bodies next held loads centres b e l filled h a =
     step_made s st met next centres filled (holds_of s st met bodies held centres b e h)
-      (subst (λ xs. advanced_from s (st.step + 1) 0 s.clumps xs met.loads.items ≡ Ok next) b
-        (subst (λ ws. advanced_from s (st.step + 1) 0 s.clumps bodies ws ≡ Ok next) l a.0))
-      a.1
+    (subst (λ xs. advanced_from s (st.step + 1) 0 s.clumps xs met.loads.items ≡ Ok next) b
+    (subst (λ ws. advanced_from s (st.step + 1) 0 s.clumps bodies ws ≡ Ok next) l a.0))
+    a.1
 
 -- the step stops where the bodies stop
 pub next_stops : (s : SceneValue) (st : State) (met : Met) (stop : Stop) (bodies : List Body) (held : List Held) (loads : List Load) (centres : List Vec3) →
@@ -292,6 +293,6 @@ pub next_stops : (s : SceneValue) (st : State) (met : Met) (stop : Stop) (bodies
     Holds s bodies centres held (all_pairs s) met → Advances s (st.step + 1) bodies loads (Err stop) → Steps s st (Err stop)
 next_stops s st met (Ended end) bodies held loads centres b e l filled h a =
     step_ends s st met end centres filled (holds_of s st met bodies held centres b e h)
-      (subst (λ xs. advanced_from s (st.step + 1) 0 s.clumps xs met.loads.items ≡ Err end) b
-        (subst (λ ws. advanced_from s (st.step + 1) 0 s.clumps bodies ws ≡ Err end) l a))
+    (subst (λ xs. advanced_from s (st.step + 1) 0 s.clumps xs met.loads.items ≡ Err end) b
+    (subst (λ ws. advanced_from s (st.step + 1) 0 s.clumps bodies ws ≡ Err end) l a))
 next_stops s st met OutOfMemory bodies held loads centres b e l filled h a = tt

@@ -13,7 +13,13 @@ use dem_shape::Shapes;
 use std::alloc::Global;
 
 /// The bodies after the step of this number under these loads, or the first limit that a clump passes.
-pub fn advanced(alloc: Global, shapes: &Shapes, bodies: &[Body], loads: &[Load], step: u32) -> Result<List<Body>, Stop>
+pub fn advanced(
+    alloc: Global,
+    shapes: &Shapes,
+    bodies: &[Body],
+    loads: &[Load],
+    step: u32,
+) -> Result<List<Body>, Stop>
     requires sound { AreSound shapes.now bodies.now }
     requires loads { AreLoads shapes.now loads.now }
     ensures { Advances shapes.now step bodies.now loads.now result }

@@ -14,4 +14,3 @@ mod stop;
 
 pub use plain_run::PlainRun;
 pub use stop::Stop;
-

@@ -32,7 +32,13 @@ pub fn is_apart(shapes: &Shapes, pair: Pair) -> bool
 }
 
 /// What a pair does where it touches.
-pub fn push_of(shapes: &Shapes, centers: &Centers, bodies: &[Body], held: &[Held], pair: Pair) -> Option<Push>
+pub fn push_of(
+    shapes: &Shapes,
+    centers: &Centers,
+    bodies: &[Body],
+    held: &[Held],
+    pair: Pair,
+) -> Option<Push>
     requires pair { IsPair shapes.now pair }
     requires centres { AreInside shapes.now centers.now }
     requires sound { AreSound shapes.now bodies.now }

@@ -26,7 +26,13 @@ pub struct Met {
 }
 
 /// What all pairs of a step come to.
-pub fn all_met(alloc: Global, shapes: &Shapes, centers: &Centers, bodies: &[Body], held: &[Held]) -> Result<Met, OutOfMemory>
+pub fn all_met(
+    alloc: Global,
+    shapes: &Shapes,
+    centers: &Centers,
+    bodies: &[Body],
+    held: &[Held],
+) -> Result<Met, OutOfMemory>
     requires centres { AreInside shapes.now centers.now }
     requires sound { AreSound shapes.now bodies.now }
     requires stored { AreStored held.now }
@@ -61,7 +67,14 @@ fn nothing_met(alloc: Global, shapes: &Shapes) -> Result<Met, OutOfMemory>
 }
 
 /// Adds the pairs of one sphere with all that is later.
-fn meet_row(met: &mut Met, shapes: &Shapes, centers: &Centers, bodies: &[Body], held: &[Held], a: u32) -> Result<(), OutOfMemory>
+fn meet_row(
+    met: &mut Met,
+    shapes: &Shapes,
+    centers: &Centers,
+    bodies: &[Body],
+    held: &[Held],
+    a: u32,
+) -> Result<(), OutOfMemory>
     requires centres { AreInside shapes.now centers.now }
     requires sound { AreSound shapes.now bodies.now }
     requires stored { AreStored held.now }
@@ -78,7 +91,14 @@ fn meet_row(met: &mut Met, shapes: &Shapes, centers: &Centers, bodies: &[Body], 
 }
 
 /// Adds one pair, if it is apart.
-fn meet(met: &mut Met, shapes: &Shapes, centers: &Centers, bodies: &[Body], held: &[Held], pair: Pair) -> Result<(), OutOfMemory>
+fn meet(
+    met: &mut Met,
+    shapes: &Shapes,
+    centers: &Centers,
+    bodies: &[Body],
+    held: &[Held],
+    pair: Pair,
+) -> Result<(), OutOfMemory>
     requires centres { AreInside shapes.now centers.now }
     requires sound { AreSound shapes.now bodies.now }
     requires stored { AreStored held.now }

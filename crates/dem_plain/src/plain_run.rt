@@ -59,7 +59,8 @@ impl<'s> PlainRun<'s> {
         requires { self.old.state.step < self.old.scene.steps }
         ensures { MakesStep self.old self.new result }
     {
-        self.centers.fill(&self.shapes, self.state.bodies.as_slice());
+        self.centers
+            .fill(&self.shapes, self.state.bodies.as_slice());
         match stepped(self.alloc, &self.shapes, &self.centers, &self.state) {
             Ok(next) => {
                 self.state = next;

@@ -18,7 +18,7 @@ pub meet-requires-clause-loads : goal.meet-requires-clause-loads
 unfolding limit_of
 meet-requires-clause-loads c =
     loads-visited c.args.shapes.now c.args.bodies.now c.args.centers.now c.args.held.now c.args.a c.loop-b.b c.loop-b.met
-      c.scene-scene.ensures.sound c.requires.sphere (omega arith) c.loop-b.invariant
+    c.scene-scene.ensures.sound c.requires.sphere (omega arith) c.loop-b.invariant
 
 pub loop-b-preserved : goal.loop-b-preserved
 loop-b-preserved c =
@@ -29,4 +29,4 @@ unfolding limit_of
 returns c =
     let room : c.args.a + 1 ≤ c.spheres.result + c.walls.result = omega (arith, c.requires.sphere, c.spheres.ensures) in
     Holds-rows c.args.shapes.now c.args.bodies.now c.args.centers.now c.args.held.now c.args.a c.loop-b.b c.loop-b.met
-      (omega (arith, c.loop-b.auto.b-end room, c.spheres.ensures, c.walls.ensures)) c.loop-b.invariant
+    (omega (arith, c.loop-b.auto.b-end room, c.spheres.ensures, c.walls.ensures)) c.loop-b.invariant

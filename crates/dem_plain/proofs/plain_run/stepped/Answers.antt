@@ -13,14 +13,14 @@ all_met-requires-clause-centres c =
 pub advanced-requires-clause-loads : goal.advanced-requires-clause-loads
 advanced-requires-clause-loads c =
     subst (AreLoads c.args.shapes.now) (sym c.as_slice-2.ensures.value)
-      (loads-all c.args.shapes.now c.as_slice-bodies.result.now c.args.centers.now c.as_slice.result.now c.in_ok-met.met c.scene-scene.ensures.sound c.in_ok-met.ensures)
+    (loads-all c.args.shapes.now c.as_slice-bodies.result.now c.args.centers.now c.as_slice.result.now c.in_ok-met.met c.scene-scene.ensures.sound c.in_ok-met.ensures)
 
 pub returns-in-Ok : goal.returns-in-Ok
 returns-in-Ok c =
     next_made c.args.shapes.now c.args.state.now c.in_ok-met.met _ c.in-Ok.bodies _ _ c.args.centers.now
-      c.as_slice-bodies.ensures c.as_slice.ensures c.as_slice-2.ensures.value c.requires.centres c.in_ok-met.ensures c.in-Ok.ensures
+    c.as_slice-bodies.ensures c.as_slice.ensures c.as_slice-2.ensures.value c.requires.centres c.in_ok-met.ensures c.in-Ok.ensures
 
 pub returns-in-Err : goal.returns-in-Err
 returns-in-Err c =
     next_stops c.args.shapes.now c.args.state.now c.in_ok-met.met c.in-Err.stop _ _ _ c.args.centers.now
-      c.as_slice-bodies.ensures c.as_slice.ensures c.as_slice-2.ensures.value c.requires.centres c.in_ok-met.ensures c.in-Err.ensures
+    c.as_slice-bodies.ensures c.as_slice.ensures c.as_slice-2.ensures.value c.requires.centres c.in_ok-met.ensures c.in-Err.ensures

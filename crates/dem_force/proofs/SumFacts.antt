@@ -58,19 +58,20 @@ pub one_load : (s : SceneValue) (ws : List Load) (m : Meeting) (a : ℕ) → a �
 one_load s ws m a e lt le =
     let new = load_plus (get_or ws a no_load) m.push.force m.push.torque_a in
     ext_get_or no_load (set ws a (load_plus (get_or ws a no_load) m.push.force m.push.torque_a)) (loads_with s ws m)
-      (length-set ws a (load_plus (get_or ws a no_load) m.push.force m.push.torque_a) ∙ sym (length-loads_with s ws m))
-      (λ c in_set.
-        let there : c < length ws = omega (arith, length-set ws a (load_plus (get_or ws a no_load) m.push.force m.push.torque_a)) in
-        elim (cases_eq c a) [
-          inl same ↦
-            subst (λ k. get_or (set ws a (load_plus (get_or ws a no_load) m.push.force m.push.torque_a)) k no_load ≡ get_or (loads_with s ws m) k no_load) (sym same)
-              (get_or-set_same ws a (load_plus (get_or ws a no_load) m.push.force m.push.torque_a) no_load lt
-                ∙ sym (at_first s a (get_or ws a no_load) m (sym e))
-                ∙ sym (loads_at s ws m a lt))
-        | inr ne ↦
-            get_or-set_other ws a c (load_plus (get_or ws a no_load) m.push.force m.push.torque_a) no_load ne
-              ∙ sym (at_wall s c (get_or ws c no_load) m (λ f. ne (sym f ∙ sym e)) le)
-              ∙ sym (loads_at s ws m c there) ])
+    (length-set ws a (load_plus (get_or ws a no_load) m.push.force m.push.torque_a) ∙ sym (length-loads_with s ws m))
+    (λ c in_set.
+    let there : c < length ws = omega (arith, length-set ws a (load_plus (get_or ws a no_load) m.push.force m.push.torque_a)) in
+    elim (cases_eq c a) [
+      | inl same ↦
+          subst (λ k. get_or (set ws a (load_plus (get_or ws a no_load) m.push.force m.push.torque_a)) k no_load ≡ get_or (loads_with s ws m) k no_load) (sym same)
+          (get_or-set_same ws a (load_plus (get_or ws a no_load) m.push.force m.push.torque_a) no_load lt
+          ∙ sym (at_first s a (get_or ws a no_load) m (sym e))
+          ∙ sym (loads_at s ws m a lt))
+      | inr ne ↦
+          get_or-set_other ws a c (load_plus (get_or ws a no_load) m.push.force m.push.torque_a) no_load ne
+          ∙ sym (at_wall s c (get_or ws c no_load) m (λ f. ne (sym f ∙ sym e)) le)
+          ∙ sym (loads_at s ws m c there)
+    ])
 
 two_sets : (s : SceneValue) (ws : List Load) (m : Meeting) (a b : ℕ) (new : Load) → a ≡ first_clump s m.pair → b ≡ (sphere_at s m.pair.b).clump → a ≢ b →
     a < length ws → b < length ws → m.pair.b < sphere_count s →
@@ -80,33 +81,35 @@ two_sets s ws m a b new ea eb ne lta ltb sphere before first =
     let other : Load = load_plus (get_or (set ws a new) b no_load) (opposed m.push.force) m.push.torque_b in
     let size : length (set (set ws a new) b other) ≡ length ws = length-set (set ws a new) b other ∙ length-set ws a new in
     ext_get_or no_load (set (set ws a new) b other) (loads_with s ws m) (size ∙ sym (length-loads_with s ws m))
-      (λ c in_set.
-        let there : c < length ws = omega (arith, size) in
-        elim (cases_eq c b) [
-          inl same ↦
-            subst (λ k. get_or (set (set ws a new) b other) k no_load ≡ get_or (loads_with s ws m) k no_load) (sym same)
-              (get_or-set_same (set ws a new) b other no_load (omega (arith, length-set ws a new))
-                ∙ ap (λ w. load_plus w (opposed m.push.force) m.push.torque_b) before
-                ∙ sym (at_second s b (get_or ws b no_load) m (λ f. ne (ea ∙ f)) sphere (sym eb))
-                ∙ sym (loads_at s ws m b ltb))
-        | inr off_b ↦
-            get_or-set_other (set ws a new) b c other no_load off_b
-              ∙ elim (cases_eq c a) [
-                  inl same ↦
-                    subst (λ k. get_or (set ws a new) k no_load ≡ get_or (loads_with s ws m) k no_load) (sym same)
-                      (get_or-set_same ws a new no_load lta ∙ first ∙ sym (loads_at s ws m a lta))
-                | inr off_a ↦
-                    get_or-set_other ws a c new no_load off_a
-                      ∙ sym (at_other s c (get_or ws c no_load) m (λ f. off_a (sym f ∙ sym ea)) sphere (λ f. off_b (sym f ∙ sym eb)))
-                      ∙ sym (loads_at s ws m c there) ] ])
+    (λ c in_set.
+    let there : c < length ws = omega (arith, size) in
+    elim (cases_eq c b) [
+      | inl same ↦
+          subst (λ k. get_or (set (set ws a new) b other) k no_load ≡ get_or (loads_with s ws m) k no_load) (sym same)
+          (get_or-set_same (set ws a new) b other no_load (omega (arith, length-set ws a new))
+          ∙ ap (λ w. load_plus w (opposed m.push.force) m.push.torque_b) before
+          ∙ sym (at_second s b (get_or ws b no_load) m (λ f. ne (ea ∙ f)) sphere (sym eb))
+          ∙ sym (loads_at s ws m b ltb))
+      | inr off_b ↦
+          get_or-set_other (set ws a new) b c other no_load off_b
+          ∙ elim (cases_eq c a) [
+            | inl same ↦
+                subst (λ k. get_or (set ws a new) k no_load ≡ get_or (loads_with s ws m) k no_load) (sym same)
+                (get_or-set_same ws a new no_load lta ∙ first ∙ sym (loads_at s ws m a lta))
+            | inr off_a ↦
+                get_or-set_other ws a c new no_load off_a
+                ∙ sym (at_other s c (get_or ws c no_load) m (λ f. off_a (sym f ∙ sym ea)) sphere (λ f. off_b (sym f ∙ sym eb)))
+                ∙ sym (loads_at s ws m c there)
+          ]
+    ])
 
 -- a push between two spheres changes two loads
 pub two_loads : (s : SceneValue) (ws : List Load) (m : Meeting) (a b : ℕ) → a ≡ first_clump s m.pair → b ≡ (sphere_at s m.pair.b).clump → a ≢ b →
     a < length ws → b < length ws → m.pair.b < sphere_count s →
     set (set ws a (load_plus (get_or ws a no_load) m.push.force m.push.torque_a)) b
-      (load_plus (get_or (set ws a (load_plus (get_or ws a no_load) m.push.force m.push.torque_a)) b no_load) (opposed m.push.force) m.push.torque_b)
+    (load_plus (get_or (set ws a (load_plus (get_or ws a no_load) m.push.force m.push.torque_a)) b no_load) (opposed m.push.force) m.push.torque_b)
     ≡ loads_with s ws m
 two_loads s ws m a b ea eb apart_ab lta ltb sphere =
     two_sets s ws m a b (load_plus (get_or ws a no_load) m.push.force m.push.torque_a) ea eb apart_ab lta ltb sphere
-      (get_or-set_other ws a b (load_plus (get_or ws a no_load) m.push.force m.push.torque_a) no_load (λ f. apart_ab (sym f)))
-      (sym (at_first s a (get_or ws a no_load) m (sym ea)))
+    (get_or-set_other ws a b (load_plus (get_or ws a no_load) m.push.force m.push.torque_a) no_load (λ f. apart_ab (sym f)))
+    (sym (at_first s a (get_or ws a no_load) m (sym ea)))

@@ -60,7 +60,7 @@ in_box-between s p sound h =
     record {
       x = in_voxels-between s.nx p.x sound.nx.le_high second.0;
       y = in_voxels-between s.ny p.y sound.ny.le_high second.1;
-      z = in_voxels-between s.nz p.z sound.nz.le_high first.1
+      z = in_voxels-between s.nz p.z sound.nz.le_high first.1;
     }
 
 -- a form of a scene is one that each of its spheres may meet

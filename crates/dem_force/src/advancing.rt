@@ -1,6 +1,6 @@
 //! One clump's step: the new velocity and spin, and the body that they lead to.
 
-ghost use Rattle.std.specs.Prelude.{◌≡◌, pos, ◌+◌, ◌*◌, ◌^◌, ◌<◌, ◌≤◌, ◌≤ℤ◌, ◌+ℤ◌, ◌-ℤ◌, ◌*ℤ◌, unsigned_abs};
+ghost use Rattle.std.specs.Prelude.{◌≡◌, pos, ◌*◌, ◌^◌, ◌≤◌, ◌+ℤ◌, ◌-ℤ◌, ◌*ℤ◌, unsigned_abs};
 ghost use Rattle.dem_num.specs.Numbers.{AtMost, quotient, shifted};
 ghost use Rattle.dem_num.specs.Vectors.{widened, narrowed, clamped_each, Within};
 ghost use Rattle.dem_num.specs.Rotations.{IsOrientation};

@@ -19,6 +19,8 @@ mod push;
 mod sides;
 mod sliding;
 mod spheres;
+#[cfg(test)]
+mod tests;
 mod touching;
 
 pub use clump::advance;

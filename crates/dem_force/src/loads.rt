@@ -22,7 +22,12 @@ pub fn add_push(loads: &mut [Load], shapes: &Shapes, pair: Pair, push: &Push)
 {
     add_to(loads, shapes.clump_of(pair.a), push.force, push.torque_a);
     if pair.b < shapes.spheres() {
-        add_to(loads, shapes.clump_of(pair.b), negated3(push.force), push.torque_b);
+        add_to(
+            loads,
+            shapes.clump_of(pair.b),
+            negated3(push.force),
+            push.torque_b,
+        );
     }
 }
 

@@ -1,6 +1,6 @@
 //! Two materials and two sides together: the law between them, the effective radius, the effective mass.
 
-ghost use Rattle.std.specs.Prelude.{◌≡◌, ◌+◌, ◌*◌, ◌/◌, ◌^◌, ◌<◌, ◌≤◌};
+ghost use Rattle.std.specs.Prelude.{◌≡◌, ◌^◌, ◌≤◌};
 ghost use Rattle.dem_model.specs.Sound.{IsMaterial};
 ghost use Rattle.dem_model.specs.Mixing.{in_a_row, mixed_of, radius_between, mass_between};
 ghost use Rattle.dem_model.specs.Ranges.{IsLaw, IsFirst, IsSecond, wall_side_of};

@@ -1,7 +1,6 @@
 //! How the two sides of a contact move against each other: levers, surface velocities, parts along and across the normal.
 
-ghost use Rattle.std.specs.Prelude.{◌≡◌, pos, ◌+◌, ◌-◌, ◌*◌, ◌/◌, ◌^◌, ◌<◌, ◌≤◌, unsigned_abs};
-ghost use Rattle.std.specs.Prelude.{◌*ℤ◌};
+ghost use Rattle.std.specs.Prelude.{◌≡◌, ◌^◌, ◌≤◌, ◌*ℤ◌, unsigned_abs};
 ghost use Rattle.dem_num.specs.Numbers.{AtMost, shifted};
 ghost use Rattle.dem_num.specs.Vectors.{widened, Within, difference_of, shifted_each, cross_of};
 ghost use Rattle.dem_model.specs.Law.{
@@ -18,7 +17,7 @@ ghost use Rattle.dem_model.specs.Law.{
 ghost use Rattle.dem_model.specs.Ranges.{IsBounded};
 
 use dem_model::Side;
-use dem_num::{Vec3, Wide3, add3, cross, dot, mul, root, scale3, sh, sh3, sub3, widen};
+use dem_num::{Vec3, Wide3, add3, cross, dot, mul, root, sh, sh3, sub3, widen};
 
 /// The radius of the contact's circle, in u, from the effective radius and the overlap.
 #[tactic(auto, unfolding(dem_model::specs::Law::contact_radius_of))]

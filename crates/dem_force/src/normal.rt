@@ -1,6 +1,6 @@
 //! The force along the normal: elastic, less damping, never pulling.
 
-ghost use Rattle.std.specs.Prelude.{◌≡◌, pos, ◌+◌, ◌*◌, ◌^◌, ◌<◌, ◌≤◌, ◌*ℤ◌, unsigned_abs};
+ghost use Rattle.std.specs.Prelude.{◌≡◌, pos, ◌*◌, ◌^◌, ◌≤◌, ◌*ℤ◌, unsigned_abs};
 ghost use Rattle.std.specs.Int.{int_max, int_min};
 ghost use Rattle.dem_num.specs.Numbers.{AtMost, shifted, root_of};
 ghost use Rattle.dem_model.specs.Law.{elastic_force_of, damping_of, normal_force_of};

@@ -1,6 +1,6 @@
 //! What a contact does: the force along and across the normal, and the torques of both sides.
 
-ghost use Rattle.std.specs.Prelude.{◌≡◌, pos, ◌+◌, ◌*◌, ◌^◌, ◌<◌, ◌≤◌, ◌*ℤ◌, unsigned_abs};
+ghost use Rattle.std.specs.Prelude.{◌≡◌, pos, ◌^◌, ◌≤◌, ◌*ℤ◌};
 ghost use Rattle.dem_num.specs.Numbers.{AtMost, shifted};
 ghost use Rattle.dem_num.specs.Vectors.{widened, Within, cross_of, opposed};
 ghost use Rattle.dem_model.specs.Law.{force_of, rolling_of, torque_a_of, torque_b_of};

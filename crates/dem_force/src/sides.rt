@@ -8,7 +8,14 @@ ghost use Rattle.dem_model.specs.Pairs.{sphere_count, limit_of, sphere_at};
 ghost use Rattle.dem_model.specs.Ranges.{IsFirst, IsSecond, IsLaw, IsTouch, IsSmall};
 ghost use Rattle.dem_model.specs.Sound.{IsBodyOf, IsMaterial, IsFrom};
 ghost use Rattle.dem_model.specs.Step.{
-  clump_of_sphere, material_at, second_material_of, law_of, side_from, side_of, second_side_of, push_of
+  clump_of_sphere,
+  material_at,
+  second_material_of,
+  law_of,
+  side_from,
+  side_of,
+  second_side_of,
+  push_of,
 };
 ghost use Rattle.dem_model.specs.declared.limits.TheConstants.{MAX_MASS};
 

@@ -1,8 +1,19 @@
 //! The force across the normal: elastic and damped, bounded by friction, and the displacement that is kept.
 
-ghost use Rattle.std.specs.Prelude.{◌≡◌, pos, ◌+◌, ◌*◌, ◌/◌, ◌^◌, ◌<◌, ◌≤◌, ◌*ℤ◌, ◌-ℤ◌, unsigned_abs};
+ghost use Rattle.std.specs.Prelude.{
+  ◌≡◌,
+  pos,
+  ◌^◌,
+  ◌<◌,
+  ◌≤◌,
+  ◌*ℤ◌,
+  ◌-ℤ◌,
+  unsigned_abs,
+  ◌==◌,
+  nat_le,
+  if◌then◌else◌,
+};
 ghost use Rattle.dem_num.specs.Numbers.{AtMost, quotient, clamped, opposite, shifted, root_of};
-ghost use Rattle.std.specs.Prelude.{◌==◌, nat_le, if◌then◌else◌};
 ghost use Rattle.dem_num.specs.Vectors.{widened, narrowed, no_vector, Within, norm2_of, quotients, scaled};
 ghost use Rattle.dem_model.specs.Law.{
   damping_of,

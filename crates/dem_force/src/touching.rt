@@ -17,7 +17,12 @@ use dem_wall::wall_touch;
 use std::sync::ledger::Ledger;
 
 /// Whether a pair touches, where the centres are these: the normal, which pushes the first along it, and the overlap in u. It counts one test.
-pub fn touch<L: Ledger>(shapes: &Shapes, centers: &Centers, pair: Pair, tests: &mut Steps<L>) -> Option<Touch>
+pub fn touch<L: Ledger>(
+    shapes: &Shapes,
+    centers: &Centers,
+    pair: Pair,
+    tests: &mut Steps<L>,
+) -> Option<Touch>
     requires pair { IsPair shapes.now pair }
     requires centres { AreInside shapes.now centers.now }
     ensures value { result ≡ touch_of shapes.now centers.now pair }

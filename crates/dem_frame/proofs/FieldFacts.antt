@@ -1,10 +1,10 @@
 -- A record read field by field.
-use Rattle.std.proofs.Common.{◌≡◌, ℕ, ◌+◌, ◌<◌, ◌≤◌, ℤ, List, [], ◌∷◌, ◌++◌, Bool, true, false, ◌==◌, Option, Some, None, length, drop, suc, zero, sym, ap, ◌∙◌, refl, arith, append_assoc, add-one, option_map}
+use Rattle.std.proofs.Common.{◌≡◌, ℕ, ◌+◌, ◌≤◌, ℤ, List, [], ◌∷◌, ◌++◌, Bool, true, false, Option, Some, None, length, drop, suc, zero, sym, ap, ◌∙◌, refl, append_assoc, add-one, option_map}
 use Rattle.std.specs.Prelude.{◌&&◌}
 use Rattle.std.proofs.lemmas.List.{drop_all, append-nil}
 use Rattle.std.proofs.lemmas.Bool.{eqb-true}
 use Rattle.csv.specs.Records.{field_at}
-use Rattle.dem_frame.specs.Records.{number_of, numbers_of, is_row, row_of}
+use Rattle.dem_frame.specs.Records.{number_of, numbers_of, is_row}
 
 -- the field at a place, and those behind it
 field_at-drop : (fields : List (List ℕ)) (i : ℕ) (f : List ℕ) → field_at fields i ≡ Some f → drop i fields ≡ f ∷ drop (suc i) fields

@@ -1,5 +1,5 @@
 -- A frame as far as it was read: record after record.
-use Rattle.std.specs.Prelude.{ℕ, ◌-◌, ◌+◌, ◌++◌, ◌≡◌, List, [], ◌∷◌, length, nat_lt, Bool, true, false, if◌then◌else◌, Option, None, Some, IsSome, option_map, option_and_then, slice_get, Result, Ok, Err, ⊤}
+use Rattle.std.specs.Prelude.{ℕ, ◌-◌, ◌+◌, ◌++◌, ◌≡◌, List, [], ◌∷◌, length, nat_lt, if◌then◌else◌, Option, None, Some, option_map, option_and_then, slice_get, Result, Ok, Err, ⊤}
 use Rattle.csv.specs.Reading.{AreRecords, Reached, default_config, strip_bom}
 use Rattle.csv.specs.declared.parser.State.TheVariants as st
 use Rattle.dem_model.specs.declared.state.State.{State}

@@ -1,5 +1,5 @@
 //! A frame as far as it was read, and what a record adds to it.
-ghost use Rattle.std.specs.Prelude.{◌≡◌, ◌<◌, ◌^◌, length, None, Some, IfOk, if◌then◌else◌};
+ghost use Rattle.std.specs.Prelude.{◌≡◌, ◌<◌, ◌^◌, length, None, Some, IfOk, nat_lt, if◌then◌else◌};
 ghost use Rattle.csv.specs.Records.{fields_of};
 
 use crate::records::{read_clump, read_head, read_pair};
@@ -48,12 +48,19 @@ impl Front {
         }
     }
 
+    // Whether a clump is missing.
+    fn lacks_clumps(&self, clumps: u32) -> bool
+        ensures { result ≡ nat_lt (length self.now.bodies) clumps }
+    {
+        self.bodies.len() < clumps as usize
+    }
+
     // A clump's record while clumps are missing, and then a pair's.
     #[tactic(auto, unfolding(crate::specs::Fronts::with_body))]
     fn take_body(&mut self, row: &ByteRecord, clumps: u32) -> Result<bool, OutOfMemory>
         ensures { IfOk result (λ good. with_body clumps self.old (fields_of row.now) ≡ (if good then Some self.new else None)) }
     {
-        if self.bodies.len() < clumps as usize {
+        if self.lacks_clumps(clumps) {
             let Some(body) = read_clump(row, self.bodies.len() as u32) else {
                 return Ok(false);
             };
@@ -87,7 +94,7 @@ impl Front {
     pub(crate) fn finish(self, clumps: u32) -> Option<State>
         ensures { result ≡ whole_frame clumps self }
     {
-        if self.bodies.len() < clumps as usize {
+        if self.lacks_clumps(clumps) {
             return None;
         }
         let step = self.step?;

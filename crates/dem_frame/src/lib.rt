@@ -1,8 +1,9 @@
-//! The rows of the program: frames, ends, taken lists and counts of tests, written to a sink.
+//! The rows of the program: frames, ends, taken lists and counts of tests, written to a sink, and a frame read back.
 //!
-//! `write_head`, `write_clump`, `write_pair`, `write_end`, `write_taken` and `write_tests` write one row each, `write_state` a frame.
-//! Means: `Frames` of dem_model. Callers rest on: Ok appended exactly the text; WriteFault comes exactly where the sink's
-//! count of faults rose, and then a prefix of the text was appended. Each row is one put. No write takes memory.
+//! `write_head`, `write_clump`, `write_pair`, `write_end`, `write_taken` and `write_tests` write one row each, `write_state`
+//! a frame; `read_frame` reads one. Means: `Frames` of dem_model, and `Fronts` here for reading. Callers rest on: Ok appended
+//! exactly the text; WriteFault comes exactly where the sink's count of faults rose, and then a prefix of the text was
+//! appended; `Bad` names the first record that no good frame has there. Each row is one put. Takes memory: `read_frame`.
 //! Not here: which frames a run writes (dem_plain, dem_core), sinks (dem_outside).
 #![tactic(auto)]
 

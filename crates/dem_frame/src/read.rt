@@ -21,11 +21,11 @@ pub fn read_frame(alloc: Global, bytes: &[u8], clumps: u32) -> Result<State, Fra
     let mut front = Front::new(alloc);
     let mut rows: u32 = 0;
     for row in reader.into_byte_records() {
-        // Records may differ in length and memory doesn't fail to be read, so only memory is wanting here.
+        // A read from memory doesn't fail, and records may differ in length, so this is want of memory.
         let Ok(row) = row else {
             return Err(FrameFault::OutOfMemory);
         };
-        // There are fewer records than bytes.
+        // Never past its type: there are fewer records than bytes.
         let Some(number) = rows.checked_add(1) else {
             return Err(FrameFault::OutOfMemory);
         };

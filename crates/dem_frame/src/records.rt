@@ -2,8 +2,19 @@
 ghost use Rattle.std.specs.Prelude.{◌≡◌, ◌≤◌, ◌+◌, ◌<◌, length, option_map};
 ghost use Rattle.csv.specs.Records.{fields_of};
 ghost use Rattle.dem_frame.specs.Records.{
-    vector_of, quaternion_of, whole_of, head_of, body_of, body_at, clump_of, is_small, comes_after, continues, held_from,
-    held_at, pair_of,
+  vector_of,
+  quaternion_of,
+  whole_of,
+  head_of,
+  body_of,
+  body_at,
+  clump_of,
+  is_small,
+  comes_after,
+  continues,
+  held_from,
+  held_at,
+  pair_of,
 };
 
 use crate::number::row_numbers;
@@ -98,7 +109,9 @@ pub(crate) fn read_clump(row: &ByteRecord, i: u32) -> Option<Body>
 fn is_small_enough(h: Vec3) -> bool
     ensures { result ≡ is_small h }
 {
-    h.x.unsigned_abs() <= MAX_HELD && h.y.unsigned_abs() <= MAX_HELD && h.z.unsigned_abs() <= MAX_HELD
+    h.x.unsigned_abs() <= MAX_HELD
+        && h.y.unsigned_abs() <= MAX_HELD
+        && h.z.unsigned_abs() <= MAX_HELD
 }
 
 // Whether the pair comes after the last one, if there is one.

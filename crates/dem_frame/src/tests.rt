@@ -2,8 +2,8 @@
 ghost use Rattle.std.specs.Prelude.{◌≡◌, length, IfOk};
 
 use crate::{
-    WriteFault, write_clump, write_end, write_head, write_pair, write_state, write_taken,
-    write_tests,
+    FrameFault, WriteFault, read_frame, write_clump, write_end, write_head, write_pair,
+    write_state, write_taken, write_tests,
 };
 use dem_model::{Body, End, EndKind, Held, Last, List, Pair, State, TakenRow};
 use dem_num::{Quat, Vec3};
@@ -138,4 +138,57 @@ fn the_least_number(rt: HostRuntime) -> Result<(), TestFail> {
         b"pair,0,1,-9223372036854775808,-1,0\n".as_slice()
     );
     Ok(())
+}
+
+#[test]
+fn a_frame_is_read_back(rt: HostRuntime) -> Result<(), TestFail> {
+    let Ok(state) = read_frame(rt.alloc(), FRAME, 1) else {
+        assert!(rt; false);
+        return Ok(());
+    };
+    assert_eq!(rt; state.step, 1);
+    assert_eq!(rt; state.bodies.as_slice(), [BODY].as_slice());
+    assert_eq!(rt; state.held.as_slice(), [HELD].as_slice());
+    Ok(())
+}
+
+#[test]
+fn no_good_frames(rt: HostRuntime) {
+    let bad = |row: u32| FrameFault::Bad { row };
+    let cases = [
+        (b"frame,1\npair,0,1,32768,0,0\n".as_slice(), bad(2)),
+        (b"frame,1\n".as_slice(), FrameFault::Short { rows: 1 }),
+        (b"".as_slice(), FrameFault::Short { rows: 0 }),
+        (b"frame,01\n".as_slice(), bad(1)),
+        (b"frame,-0\n".as_slice(), bad(1)),
+        (b"frame,+1\n".as_slice(), bad(1)),
+        (b"frame,1000000001\n".as_slice(), bad(1)),
+        (b"frame,1,\n".as_slice(), bad(1)),
+        (
+            b"frame,1\nclump,1,0,0,0,0,0,0,0,0,0,0,0,0,0\n".as_slice(),
+            bad(2),
+        ),
+        (
+            b"frame,1\nclump,0,9223372036854775808,0,0,0,0,0,0,0,0,0,0,0,0\n".as_slice(),
+            bad(2),
+        ),
+        (
+            b"frame,1\n\n\"clump\",0,0,0,0,0,0,0,0,0,0,0,0,0,0\npair,1,1,0,0,0\n".as_slice(),
+            bad(3),
+        ),
+        (
+            b"frame,1\nclump,0,0,0,0,0,0,0,0,0,0,0,0,0,0\npair,0,2,0,0,0\npair,0,2,0,0,0\n".as_slice(),
+            bad(4),
+        ),
+        (
+            b"frame,1\nclump,0,0,0,0,0,0,0,0,0,0,0,0,0,0\npair,0,2,0,0,1099511627777\n".as_slice(),
+            bad(3),
+        ),
+    ];
+    for (text, fault) in cases {
+        match read_frame(rt.alloc(), text, 1) {
+            Ok(_) => assert!(rt; false),
+            Err(e) => assert_eq!(rt; e, fault),
+        }
+    }
 }

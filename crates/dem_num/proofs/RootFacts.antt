@@ -37,8 +37,8 @@ root_of-is_root zero = record { square_le = omega arith; next_gt = omega arith }
 root_of-is_root (suc n) = root_next n (root_of n) (root_of-is_root n)
 
 -- what is a root is the root
-pub root_of-from_is_root : (x s : ℕ) → IsRoot x s → s ≡ root_of x
-root_of-from_is_root x s r = same_root x s (root_of x) r (root_of-is_root x)
+pub root_of_from_is_root : (x s : ℕ) → IsRoot x s → s ≡ root_of x
+root_of_from_is_root x s r = same_root x s (root_of x) r (root_of-is_root x)
 
 -- the root is at most m where the number is at most m squared
 pub root_le : (x m : ℕ) → x ≤ m * m → root_of x ≤ m

@@ -6,6 +6,7 @@
 #![tactic(auto)]
 
 mod axes;
+mod guess;
 mod operators;
 mod products;
 mod rounded;

@@ -1,5 +1,6 @@
 //! Worked values of each call.
 
+use crate::guess::{long_guess, short_guess};
 use crate::*;
 
 #[test]
@@ -19,6 +20,7 @@ fn takes_roots(rt: HostRuntime) {
 }
 
 #[test]
+#[tactic(auto, unfolding(crate::specs::Rotations::quat_norm2_of))]
 fn multiplies_vectors(rt: HostRuntime) {
     let a = Vec3 { x: 1, y: -2, z: 3 };
     let b = Wide3 { x: 4, y: 5, z: -6 };
@@ -62,4 +64,23 @@ fn works_on_each_axis(rt: HostRuntime) {
     assert_eq!(rt; sh3(a, 1), Wide3 { x: 4, y: -5, z: 2 });
     assert_eq!(rt; cl3(a, 5), Wide3 { x: 5, y: -5, z: 4 });
     assert_eq!(rt; narrow3(b), Vec3 { x: 1, y: 2, z: 3 });
+}
+
+/// The guess is the root or one less, so that the slow way is not taken.
+#[test]
+fn guesses_well(rt: HostRuntime) {
+    for x in [1u64, 3, 99, 1 << 20, 12345678901234567, (1 << 58) - 1] {
+        let missing = root(x as u128).wrapping_sub(short_guess(x));
+        assert!(rt; missing <= 1);
+    }
+    for x in [
+        1u128 << 58,
+        (1 << 80) + 7,
+        (1 << 126) - 1,
+        1 << 126,
+        u128::MAX,
+    ] {
+        let missing = root(x).wrapping_sub(long_guess(x));
+        assert!(rt; missing <= 1);
+    }
 }

@@ -11,8 +11,6 @@ use Rattle.dem_model.specs.Spheres.{balls_of, sphere_of, spheres_of_clump, spher
 use Rattle.dem_model.specs.Reading.{◌>>=◌}
 use Rattle.dem_model.specs.ReadingKinds.{ball_count, clump_of, clumps_from}
 use Rattle.dem_model.proofs.SphereFacts.{spheres_from-push}
-use Rattle.dem_scene.specs.Gives.{Fails}
-use Rattle.dem_scene.proofs.GivesFacts.{fails_then}
 use Rattle.dem_scene.proofs.Elements.{with_front, push_front}
 
 module _ (templates : List Template) where

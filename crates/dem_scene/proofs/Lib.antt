@@ -5,3 +5,4 @@ pub mod ClumpFacts
 pub mod TableFacts
 pub mod PlaceFacts
 pub mod JsonFacts
+pub mod LengthFacts

@@ -1,10 +1,8 @@
 -- Testing the spheres of a clump, and the clumps, one after the other.
-use Rattle.std.proofs.Common.{◌≡◌, ℕ, suc, ◌+◌, ◌<◌, ◌≤◌, Bool, true, false, ◌&&◌, List, [], ◌∷◌, length, get_or, drop, Ok, Err, Result, refl, ap, sym, ◌∙◌, add-one, drop-cons, arith, All, IsTrue, subst, inl, inr, Some}
-use Rattle.std.specs.Prelude.{slice_get, ⊤}
+use Rattle.std.proofs.Common.{◌≡◌, ℕ, ◌+◌, ◌<◌, true, ◌&&◌, List, [], ◌∷◌, length, get_or, drop, Ok, Result, ap, sym, ◌∙◌, add-one, drop-cons, arith, All, IsTrue, subst, inl, inr}
+use Rattle.std.specs.Prelude.{⊤}
 use Rattle.dem_num.specs.declared.vector.Wide3.{Wide3}
-use Rattle.std.specs.List.{list_all}
 use Rattle.std.proofs.Math.Seq.{drop-length}
-use Rattle.std.proofs.lemmas.List.Elements.{All-nil}
 use Rattle.std.proofs.lemmas.List.Sums.{AllPass-from_list_all}
 use Rattle.std.proofs.lemmas.Option.{slice_get_cases}
 use Rattle.dem_model.specs.SceneValue.{SceneValue}

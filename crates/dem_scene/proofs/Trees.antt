@@ -1,13 +1,11 @@
 -- Lists and objects of a value tree, as the code sees them and as the definitions do.
-use Rattle.std.proofs.Common.{◌≡◌, ℕ, suc, ◌<◌, ◌≤◌, Bool, ◌&&◌, List, [], ◌∷◌, length, Option, Some, None, refl, ap, arith, string_bytes}
+use Rattle.std.proofs.Common.{◌≡◌, ℕ, suc, ◌<◌, ◌≤◌, Bool, ◌&&◌, List, [], ◌∷◌, length, None, refl, ap, arith, string_bytes}
 use Rattle.std.specs.List.{list_all}
 use Rattle.std.specs.declared.alloc.Global.{Global}
 use Rattle.std.specs.Prelude.{String}
 use Rattle.std.specs.Map.{keys_of}
 use Rattle.serde_json.specs.declared.value.Value.{Value}
 use Rattle.serde_json.specs.View.{items_view, members_view}
-use Rattle.dem_num.specs.declared.vector.Vec3.{Vec3}
-use Rattle.dem_num.specs.declared.vector.Quat.{Quat}
 use Rattle.dem_model.specs.Reading.{names_in, count_of}
 use Rattle.dem_model.specs.ReadingVectors.{three_of, four_of}
 

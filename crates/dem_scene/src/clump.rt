@@ -123,7 +123,7 @@ fn clumps_in(
 
 /// The clumps of the scene object.
 #[tactic(auto, unfolding(dem_model::specs::ReadingScene::clumps_at))]
-pub(crate) fn clumps(
+pub(crate) fn read_clumps(
     alloc: Global,
     templates: &List<Template>,
     value: &Value,

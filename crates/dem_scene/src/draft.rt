@@ -2,24 +2,23 @@
 
 ghost use Rattle.std.specs.Prelude.{◌≡◌, codes, pos, unsigned_abs, IfOk, All};
 ghost use Rattle.serde_json.specs.View.{view};
-ghost use Rattle.dem_model.specs.Reading.{from_to};
+ghost use Rattle.dem_model.specs.Reading.{spot, from_to};
 ghost use Rattle.dem_model.specs.ReadingVectors.{vector_at};
 ghost use Rattle.dem_model.specs.ReadingScene.{version_of, check_version, table_of};
 ghost use Rattle.dem_model.specs.Sound.{IsFrom, IsBetween, EachBetween, IsClump};
 ghost use Rattle.dem_scene.specs.Gives.{Gives};
 ghost use Rattle.dem_scene.specs.Table.{IsTable};
 
-use crate::clump::clumps;
-use crate::list::{list, list_or_empty};
-use crate::material::Materials;
+use crate::clump::read_clumps;
+use crate::material::read_materials;
 use crate::number::{number, small_number, spot, whole};
 use crate::object::check;
-use crate::template::{Templates, widest};
+use crate::template::{read_templates, widest};
 use crate::vector::{vector_between, vector_or_zero};
-use crate::wall::Walls;
+use crate::wall::read_walls;
 use dem_model::{
-    Clump, List, MAX_GRAVITY, MAX_MATERIALS, MAX_SPEED, MAX_SPIN, MAX_STEPS, MAX_TEMPLATES,
-    MAX_VOXELS, MAX_WALLS, Material, Name, Scene, SceneFault, Spot, Template, Wall,
+    Clump, List, MAX_GRAVITY, MAX_SPEED, MAX_SPIN, MAX_STEPS, MAX_VOXELS, Material, Name, Scene,
+    SceneFault, Spot, Template, Wall,
 };
 use dem_num::Vec3;
 use serde_json::Value;
@@ -89,11 +88,17 @@ fn check_version(value: &Value) -> Result<(), SceneFault>
 }
 
 /// The box: the voxels on each axis.
-fn size(value: &Value, at: Spot) -> Result<Vec3, SceneFault>
-    ensures value { result ≡ vector_at (codes "box") (from_to 1 MAX_VOXELS) at (view value.now) }
+fn size(value: &Value) -> Result<Vec3, SceneFault>
+    ensures value { result ≡ vector_at (codes "box") (from_to 1 MAX_VOXELS) (spot Name.Box 0 0) (view value.now) }
     ensures range { IfOk result (EachBetween (pos 1) (pos MAX_VOXELS)) }
 {
-    vector_between(value, "box", 1, u64::from(MAX_VOXELS), at)
+    vector_between(
+        value,
+        "box",
+        1,
+        u64::from(MAX_VOXELS),
+        spot(Name::Box, 0, 0),
+    )
 }
 
 /// The voxels on one axis.
@@ -113,44 +118,17 @@ pub(crate) fn table(alloc: Global, value: &Value) -> Result<Draft, SceneFault>
 {
     check(value, spot(Name::Scene, 0, 0))?;
     check_version(value)?;
-    let size = size(value, spot(Name::Box, 0, 0))?;
+    let size = size(value)?;
     let steps = small_number(value, "steps", 0, MAX_STEPS, spot(Name::Steps, 0, 0))?;
     let every = small_number(value, "every", 1, MAX_STEPS, spot(Name::Every, 0, 0))?;
     let speed = number(value, "speed", 1, MAX_SPEED, spot(Name::Speed, 0, 0))?;
     let spin = number(value, "spin", 1, MAX_SPIN, spot(Name::Spin, 0, 0))?;
     let gravity = vector_or_zero(value, "gravity", MAX_GRAVITY, spot(Name::Gravity, 0, 0))?;
-    let materials = list(
-        alloc,
-        &Materials,
-        value,
-        "materials",
-        1,
-        MAX_MATERIALS,
-        spot(Name::Materials, 0, 0),
-    )?;
-    let mats = materials.len() as u32;
-    let templates = list(
-        alloc,
-        &Templates { materials: mats },
-        value,
-        "templates",
-        1,
-        MAX_TEMPLATES,
-        spot(Name::Templates, 0, 0),
-    )?;
-    let reader = Walls {
-        materials: mats,
-        widest: widest(templates.as_slice()),
-    };
-    let walls = list_or_empty(
-        alloc,
-        &reader,
-        value,
-        "walls",
-        MAX_WALLS,
-        spot(Name::Walls, 0, 0),
-    )?;
-    let clumps = clumps(alloc, &templates, value)?;
+    let materials = read_materials(alloc, value)?;
+    let count = materials.len() as u32;
+    let templates = read_templates(alloc, value, count)?;
+    let walls = read_walls(alloc, value, count, widest(templates.as_slice()))?;
+    let clumps = read_clumps(alloc, &templates, value)?;
     Ok(Draft {
         nx: voxels(size.x),
         ny: voxels(size.y),

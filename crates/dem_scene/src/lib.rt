@@ -1,4 +1,9 @@
 //! The scene text: its whole reading, to a Scene or to the first fault with its place.
+//!
+//! `read_scene` reads the bytes, with one reader for each kind of object and one loop for lists of objects; `fault_line`
+//! makes the line of a refused text. Means: the `Reading` definitions of dem_model. Callers rest on: the answer is the one
+//! that `scene_from` has for the bytes, the scene and the fault alike, unless memory was wanting; the line is `fault_text`.
+//! Takes memory: `read_scene`. Not here: what a scene means (dem_model), where the line goes (dem_top).
 #![tactic(auto)]
 
 mod clump;
@@ -17,3 +22,6 @@ mod wall;
 pub use dem_model::{Name, SceneFault, Spot};
 pub use read::read_scene;
 pub use text::{LINE_ROOM, Line, fault_line};
+
+#[cfg(test)]
+mod tests;

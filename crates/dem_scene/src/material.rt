@@ -1,20 +1,21 @@
 //! A material of a scene text.
 
-ghost use Rattle.std.specs.Prelude.{◌≡◌, IfOk};
+ghost use Rattle.std.specs.Prelude.{◌≡◌, codes, IfOk, All, length};
 ghost use Rattle.serde_json.specs.View.{view};
+ghost use Rattle.dem_model.specs.Reading.{spot, list_at};
 ghost use Rattle.dem_model.specs.ReadingKinds.{material_of};
-ghost use Rattle.dem_model.specs.Sound.{IsMaterial};
+ghost use Rattle.dem_model.specs.Sound.{IsFrom, IsMaterial};
 ghost use Rattle.dem_scene.specs.Gives.{Gives};
 
-use crate::list::ReadItem;
+use crate::list::{ReadItem, list};
 use crate::number::{small_number, small_number_or_zero, spot};
 use crate::object::check;
-use dem_model::{MAX_RATIO, MAX_STIFFNESS, Material, Name, SceneFault};
+use dem_model::{List, MAX_MATERIALS, MAX_RATIO, MAX_STIFFNESS, Material, Name, SceneFault};
 use serde_json::Value;
 use std::alloc::Global;
 
-/// Reads materials.
-pub(crate) struct Materials;
+/// Reads materials, one by one.
+struct Materials;
 
 impl ReadItem for Materials {
     type Item = Material;
@@ -27,6 +28,17 @@ impl ReadItem for Materials {
     fn read(&self, _alloc: Global, i: u32, value: &Value) -> Result<Material, SceneFault> {
         material(value, i)
     }
+}
+
+/// The materials of the scene object.
+pub(crate) fn read_materials(alloc: Global, value: &Value) -> Result<List<Material>, SceneFault>
+    ensures value { Gives result (list_at (codes "materials") 1 MAX_MATERIALS (spot Name.Materials 0 0) material_of
+        (view value.now)) }
+    ensures range { IfOk result (All IsMaterial) }
+    ensures count { IfOk result (λ ms. IsFrom 1 MAX_MATERIALS (length ms)) }
+{
+    let at = spot(Name::Materials, 0, 0);
+    list(alloc, &Materials, value, "materials", 1, MAX_MATERIALS, at)
 }
 
 /// A material: stiffness, damping and friction.

@@ -1,9 +1,10 @@
 //! A template of a scene text, and its spheres.
 
-ghost use Rattle.std.specs.Prelude.{◌≡◌, IfOk};
+ghost use Rattle.std.specs.Prelude.{◌≡◌, codes, IfOk, All, length};
 ghost use Rattle.serde_json.specs.View.{view};
+ghost use Rattle.dem_model.specs.Reading.{spot, list_at};
 ghost use Rattle.dem_model.specs.ReadingKinds.{sphere_of, template_of, widest_of, greatest_radius};
-ghost use Rattle.dem_model.specs.Sound.{IsBall, IsTemplate};
+ghost use Rattle.dem_model.specs.Sound.{IsFrom, IsBall, IsTemplate};
 ghost use Rattle.dem_scene.specs.Gives.{Gives};
 
 use crate::list::{ReadItem, list};
@@ -11,12 +12,13 @@ use crate::number::{index, number, small_number, spot};
 use crate::object::check;
 use crate::vector::{vector_between, vector_sized};
 use dem_model::{
-    Ball, MAX_BALLS, MAX_MASS, MAX_MOMENT, MAX_OFFSET, MAX_RADIUS, Name, SceneFault, Template,
+    Ball, List, MAX_BALLS, MAX_MASS, MAX_MOMENT, MAX_OFFSET, MAX_RADIUS, MAX_TEMPLATES, Name,
+    SceneFault, Template,
 };
 use serde_json::Value;
 use std::alloc::Global;
 
-/// Reads the spheres of one template.
+/// Reads the spheres of one template, one by one.
 #[derive(Clone, Copy)]
 struct Spheres {
     materials: u32,
@@ -65,10 +67,10 @@ fn sphere(value: &Value, materials: u32, i: u32, j: u32) -> Result<Ball, SceneFa
     Ok(Ball { at, r, mat })
 }
 
-/// Reads templates.
+/// Reads templates, one by one.
 #[derive(Clone, Copy)]
-pub(crate) struct Templates {
-    pub(crate) materials: u32,
+struct Templates {
+    materials: u32,
 }
 
 impl ReadItem for Templates {
@@ -81,6 +83,29 @@ impl ReadItem for Templates {
     fn read(&self, alloc: Global, i: u32, value: &Value) -> Result<Template, SceneFault> {
         template(alloc, value, self.materials, i)
     }
+}
+
+/// The templates of the scene object.
+pub(crate) fn read_templates(
+    alloc: Global,
+    value: &Value,
+    materials: u32,
+) -> Result<List<Template>, SceneFault>
+    ensures value { Gives result (list_at (codes "templates") 1 MAX_TEMPLATES (spot Name.Templates 0 0)
+        (template_of materials) (view value.now)) }
+    ensures range { IfOk result (All (IsTemplate materials)) }
+    ensures count { IfOk result (λ ts. IsFrom 1 MAX_TEMPLATES (length ts)) }
+{
+    let at = spot(Name::Templates, 0, 0);
+    list(
+        alloc,
+        &Templates { materials },
+        value,
+        "templates",
+        1,
+        MAX_TEMPLATES,
+        at,
+    )
 }
 
 /// A template: its mass, its moments of inertia and its spheres.

@@ -1,16 +1,17 @@
 //! Vectors and quaternions of a scene text: lists of exactly three and of exactly four whole numbers.
 
-ghost use Rattle.std.specs.Prelude.{◌≡◌, ◌≤◌, ◌*◌, ◌^◌, pos, false, unsigned_abs, IfOk, IsTrue};
+ghost use Rattle.std.specs.Prelude.{◌≡◌, ◌<◌, ◌≤◌, ◌^◌, pos, false, unsigned_abs, IfOk, IsTrue};
 ghost use Rattle.serde_json.specs.View.{view};
 ghost use Rattle.dem_num.specs.Vectors.{widened, Within, is_zero};
 ghost use Rattle.dem_num.specs.Rotations.{quat_norm2_of};
 ghost use Rattle.dem_model.specs.Reading.{at_most, from_to};
-ghost use Rattle.dem_model.specs.ReadingVectors.{three_at, four_at, each_is, vector_of, vector_at, vector_or, direction_of, direction_at, is_bounded, is_long, quaternion_of, quaternion_or};
+ghost use Rattle.dem_model.specs.ReadingVectors.{three_at, each_is, vector_of, vector_at, vector_or, direction_of, direction_at};
+ghost use Rattle.dem_model.specs.ReadingVectors.{four_at, is_bounded, is_long, quaternion_of, quaternion_or};
 ghost use Rattle.dem_model.specs.Sound.{IsFrom, IsBetween, EachBetween};
 
 use crate::number::whole;
 use dem_model::{MAX_DIRECTION, MAX_NORM2, MIN_NORM2, SceneFault, Spot};
-use dem_num::{Quat, Vec3};
+use dem_num::{Quat, Vec3, quat_norm2};
 use serde_json::Value;
 
 /// Exactly three whole numbers.
@@ -210,12 +211,10 @@ fn quaternion_in(value: &Value, at: Spot) -> Result<Quat, SceneFault>
 }
 
 /// Whether each component is at most 2^31 in size.
+#[tactic(auto, using(crate::proofs::LengthFacts::norm2_small))]
 fn is_bounded(q: Quat) -> bool
     ensures value { result ≡ is_bounded q }
-    ensures a { IsTrue result → unsigned_abs q.a ≤ 2 ^ 31 }
-    ensures b { IsTrue result → unsigned_abs q.b ≤ 2 ^ 31 }
-    ensures c { IsTrue result → unsigned_abs q.c ≤ 2 ^ 31 }
-    ensures d { IsTrue result → unsigned_abs q.d ≤ 2 ^ 31 }
+    ensures small { IsTrue result → quat_norm2_of q < 2 ^ 128 }
 {
     let most = 1 << 31;
     is_at_most(q.a, most) && is_at_most(q.b, most) && is_at_most(q.c, most) && is_at_most(q.d, most)
@@ -223,42 +222,12 @@ fn is_bounded(q: Quat) -> bool
 
 /// Whether the squared length is in its range.
 fn is_long(q: Quat) -> bool
-    requires a { unsigned_abs q.a ≤ 2 ^ 31 }
-    requires b { unsigned_abs q.b ≤ 2 ^ 31 }
-    requires c { unsigned_abs q.c ≤ 2 ^ 31 }
-    requires d { unsigned_abs q.d ≤ 2 ^ 31 }
+    requires { quat_norm2_of q < 2 ^ 128 }
     ensures value { result ≡ is_long q }
     ensures length { IsTrue result → IsFrom MIN_NORM2 MAX_NORM2 (quat_norm2_of q) }
 {
-    let n = norm2(q);
+    let n = quat_norm2(q);
     u128::from(MIN_NORM2) <= n && n <= u128::from(MAX_NORM2)
-}
-
-/// The squared length of a quaternion.
-#[tactic(auto, unfolding(dem_num::specs::Rotations::quat_norm2_of))]
-fn norm2(q: Quat) -> u128
-    requires a { unsigned_abs q.a ≤ 2 ^ 31 }
-    requires b { unsigned_abs q.b ≤ 2 ^ 31 }
-    requires c { unsigned_abs q.c ≤ 2 ^ 31 }
-    requires d { unsigned_abs q.d ≤ 2 ^ 31 }
-    ensures { result ≡ quat_norm2_of q }
-{
-    let (a, b, c, d) = (
-        q.a.unsigned_abs(),
-        q.b.unsigned_abs(),
-        q.c.unsigned_abs(),
-        q.d.unsigned_abs(),
-    );
-    squared(a) + squared(b) + squared(c) + squared(d)
-}
-
-/// The square of a number.
-fn squared(n: u64) -> u128
-    requires { n ≤ 2 ^ 31 }
-    ensures value { result ≡ n * n }
-    ensures size { result ≤ 2 ^ 62 }
-{
-    u128::from(n) * u128::from(n)
 }
 
 /// The quaternion of a name, or the one that turns nothing where the name isn't there.

@@ -1,24 +1,27 @@
 //! A wall of a scene text: a plane or a cylinder.
 
-ghost use Rattle.std.specs.Prelude.{◌≡◌, ℕ, IfOk};
+ghost use Rattle.std.specs.Prelude.{◌≡◌, ◌≤◌, ℕ, codes, IfOk, All, length};
 ghost use Rattle.serde_json.specs.View.{view};
+ghost use Rattle.dem_model.specs.Reading.{spot, list_or};
 ghost use Rattle.dem_model.specs.ReadingKinds.{plane_of, axis_at, cylinder_of, form_at, wall_of};
 ghost use Rattle.dem_scene.specs.Gives.{Gives};
 ghost use Rattle.dem_scene.specs.Walls.{IsFormBeyond, IsWallBeyond};
 
-use crate::list::ReadItem;
+use crate::list::{ReadItem, list_or_empty};
 use crate::number::{index, number, spot};
 use crate::object::check;
 use crate::vector::{direction, vector_between};
-use dem_model::{Axis, Form, MAX_CYLINDER, MAX_POINT, Name, SceneFault, Spot, Wall};
+use dem_model::{
+    Axis, Form, List, MAX_CYLINDER, MAX_POINT, MAX_WALLS, Name, SceneFault, Spot, Wall,
+};
 use serde_json::Value;
 use std::alloc::Global;
 
-/// Reads walls; `widest` is the greatest sphere radius of the templates.
+/// Reads walls, one by one; `widest` is the greatest sphere radius of the templates.
 #[derive(Clone, Copy)]
-pub(crate) struct Walls {
-    pub(crate) materials: u32,
-    pub(crate) widest: u32,
+struct Walls {
+    materials: u32,
+    widest: u32,
 }
 
 impl ReadItem for Walls {
@@ -32,6 +35,29 @@ impl ReadItem for Walls {
     fn read(&self, _alloc: Global, i: u32, value: &Value) -> Result<Wall, SceneFault> {
         wall(value, self.materials, self.widest, i)
     }
+}
+
+/// The walls of the scene object; `widest` is the greatest sphere radius of the templates.
+pub(crate) fn read_walls(
+    alloc: Global,
+    value: &Value,
+    materials: u32,
+    widest: u32,
+) -> Result<List<Wall>, SceneFault>
+    ensures value { Gives result (list_or (codes "walls") 0 MAX_WALLS (spot Name.Walls 0 0)
+        (wall_of materials widest) (view value.now)) }
+    ensures range { IfOk result (All (IsWallBeyond materials widest)) }
+    ensures count { IfOk result (λ ws. length ws ≤ MAX_WALLS) }
+{
+    let at = spot(Name::Walls, 0, 0);
+    list_or_empty(
+        alloc,
+        &Walls { materials, widest },
+        value,
+        "walls",
+        MAX_WALLS,
+        at,
+    )
 }
 
 /// A wall: its form and its material.

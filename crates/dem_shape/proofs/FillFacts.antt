@@ -22,13 +22,13 @@ pub IsFilled-more : (s : SceneValue) (bodies : List Body) (i : ℕ) (centres : L
     IsPose s bodies new.clump new → IsFilled s bodies (i + 1) (set centres i c) new
 unfolding sphere_at sphere_count
 IsFilled-more s bodies i centres old new c f lt e pose = record {
-    size = length-set centres i c ∙ f.size;
-    done = take_more_set centres i c (omega (arith, f.size))
+  size = length-set centres i c ∙ f.size;
+  done = take_more_set centres i c (omega (arith, f.size))
       ∙ ap (λ xs. xs ++ c ∷ []) f.done
       ∙ ap (λ x. map (placed bodies) (take i (spheres_of s)) ++ x ∷ []) e
       ∙ sym (map_more (placed bodies) (spheres_of s) i no_sphere lt);
-    pose_is = pose
-  }
+  pose_is = pose;
+}
 
 -- all centres are in place
 pub IsFilled-all : (s : SceneValue) (bodies : List Body) (i : ℕ) (centres : List Vec3) (pose : Pose) →

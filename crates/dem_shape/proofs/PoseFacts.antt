@@ -36,7 +36,7 @@ in_box-small s p sound h =
     record {
       x = in_voxels-small s.nx p.x sound.nx.le_high second.0;
       y = in_voxels-small s.ny p.y sound.ny.le_high second.1;
-      z = in_voxels-small s.nz p.z sound.nz.le_high first.1
+      z = in_voxels-small s.nz p.z sound.nz.le_high first.1;
     }
 
 -- the body of a clump, as a list of bodies shows it
@@ -67,7 +67,7 @@ pose_made s bodies k d pose scene sound there clump place rows entries =
       place = here;
       rows = rows ∙ ap (λ (b : Body). matrix_of b.q) e;
       entries = entries;
-      small = subst (λ (p : Vec3). Within (widened p) (2 ^ 36)) (sym here) (in_box-small s (widened (body_at bodies k).p) scene (sound.each k there).body.p)
+      small = subst (λ (p : Vec3). Within (widened p) (2 ^ 36)) (sym here) (in_box-small s (widened (body_at bodies k).p) scene (sound.each k there).body.p);
     }
 
 -- a pose is that of its own clump

@@ -1,8 +1,8 @@
 //! Cylinders along an axis, with the sphere inside: the distance from the axis, and the touch.
 
-ghost use Rattle.std.specs.Prelude.{◌≡◌, pos, ◌+◌, ◌*◌, ◌^◌, ◌<◌, ◌≤◌, ◌+ℤ◌, ◌-ℤ◌, ◌≤ℤ◌, IfSome, unsigned_abs};
+ghost use Rattle.std.specs.Prelude.{◌≡◌, pos, ◌+◌, ◌*◌, ◌^◌, ◌<◌, ◌≤◌, ◌+ℤ◌, ◌-ℤ◌, ◌*ℤ◌, ◌≤ℤ◌, IfSome, unsigned_abs};
 ghost use Rattle.std.specs.Int.{int_min, int_max};
-ghost use Rattle.dem_num.specs.Numbers.{AtMost, root_of};
+ghost use Rattle.dem_num.specs.Numbers.{AtMost, opposite, root_of};
 ghost use Rattle.dem_num.specs.Vectors.{widened, Within, difference_of};
 ghost use Rattle.dem_model.specs.Sound.{IsBetween};
 ghost use Rattle.dem_model.specs.Touch.{
@@ -152,7 +152,16 @@ fn wide_inward(e: i128, distance: u64) -> i128
     ensures value { result ≡ inward e distance }
     ensures size { AtMost result (2 ^ 30) }
 {
-    tdiv(negated(mul(UNIT as i128, e)), distance as i128)
+    tdiv(toward_axis(e), distance as i128)
+}
+
+/// A component of the way to the axis, times 2^30.
+fn toward_axis(e: i128) -> i128
+    requires { AtMost e (2 ^ 38) }
+    ensures value { result ≡ opposite (pos UNIT *ℤ e) }
+    ensures size { unsigned_abs result ≡ 2 ^ 30 * unsigned_abs e }
+{
+    negated(mul(UNIT as i128, e))
 }
 
 /// The overlap of a sphere inside a cylinder, at least 1.

@@ -7,6 +7,8 @@
 
 mod cylinder;
 mod plane;
+#[cfg(test)]
+mod tests;
 mod touching;
 
 pub use plane::unit;

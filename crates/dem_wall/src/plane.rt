@@ -1,6 +1,6 @@
 //! Planes: the unit normal, the gap in front of a plane, and the touch of a sphere.
 
-ghost use Rattle.std.specs.Prelude.{◌≡◌, pos, ◌+◌, ◌*◌, ◌^◌, ◌<◌, ◌≤◌, ◌-ℤ◌, ◌*ℤ◌, ◌≤ℤ◌, false, IfSome, unsigned_abs};
+ghost use Rattle.std.specs.Prelude.{◌≡◌, pos, ◌+◌, ◌*◌, ◌^◌, ◌<◌, ◌≤◌, ◌-ℤ◌, ◌*ℤ◌, ◌≤ℤ◌, int_lt, false, IfSome, unsigned_abs};
 ghost use Rattle.std.specs.Int.{int_min};
 ghost use Rattle.dem_num.specs.Numbers.{AtMost, quotient, shifted, root_of};
 ghost use Rattle.dem_num.specs.Vectors.{widened, Within, is_zero, norm2_of, dot_of, difference_of};
@@ -113,7 +113,7 @@ pub fn touch_plane(at: Vec3, dir: Vec3, c: Vec3, r: u32) -> Option<Touch>
 {
     let n = unit(dir);
     let gap = gap(at, n, c);
-    if gap < r as i128 {
+    if is_closer(gap, r) {
         Some(Touch {
             n,
             delta: overlap(sub(r as i128, gap)),
@@ -121,6 +121,13 @@ pub fn touch_plane(at: Vec3, dir: Vec3, c: Vec3, r: u32) -> Option<Touch>
     } else {
         None
     }
+}
+
+/// Whether a gap is less than a radius.
+fn is_closer(gap: i128, r: u32) -> bool
+    ensures { result ≡ int_lt gap (pos r) }
+{
+    gap < r as i128
 }
 
 /// An overlap, no greater than the greatest one.

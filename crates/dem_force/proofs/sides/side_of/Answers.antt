@@ -8,14 +8,14 @@ turned_spin-requires-clause-spin c = within_wider (widened c.args.body.now.w) c.
 
 pub returns-clause-ranges : goal.returns-clause-ranges
 returns-clause-ranges c = record {
-    within = record {
-      v = within_wider (widened c.args.body.now.v) c.args.shapes.now.speed (2 ^ 40) c.requires.body.body.v c.scene-scene.ensures.sound.speed.le_high;
-      spin = c.turned_spin.ensures.size;
-      lever = c.turned.ensures.size;
-      r = c.ball_of-ball.ensures.within.r.le_high;
-      mass = c.mass.ensures.range.le_high
-    };
-    has_radius = c.ball_of-ball.ensures.within.r.low_le;
-    has_mass = c.mass.ensures.range.low_le;
-    no_wall = refl
-  }
+  within = record {
+    v = within_wider (widened c.args.body.now.v) c.args.shapes.now.speed (2 ^ 40) c.requires.body.body.v c.scene-scene.ensures.sound.speed.le_high;
+    spin = c.turned_spin.ensures.size;
+    lever = c.turned.ensures.size;
+    r = c.ball_of-ball.ensures.within.r.le_high;
+    mass = c.mass.ensures.range.le_high;
+  };
+  has_radius = c.ball_of-ball.ensures.within.r.low_le;
+  has_mass = c.mass.ensures.range.low_le;
+  no_wall = refl;
+}

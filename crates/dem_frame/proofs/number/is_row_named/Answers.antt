@@ -1,4 +1,4 @@
-use Rattle.std.proofs.Common.{◌≡◌, sym, refl}
+use Rattle.std.proofs.Common.{refl}
 use Rattle.dem_frame.specs.Records.{is_row}
 use Rattle.dem_frame.proofs.number.is_row_named.Goals as goal
 

@@ -1,4 +1,4 @@
-use Rattle.std.proofs.Common.{◌≡◌, ◌+◌, ◌++◌, ◌∷◌, [], FitsSigned, w64, length, length-append, sym, arith, refl, rules}
+use Rattle.std.proofs.Common.{◌≡◌, ◌+◌, ◌++◌, ◌∷◌, [], FitsSigned, w64, length-append, sym, arith, refl, rules}
 use Rattle.std.proofs.lemmas.Int.{to_z-of_z}
 use Rattle.csv.proofs.RecordFacts.{field-there}
 use Rattle.csv.specs.Records.{fields_of}
@@ -18,10 +18,11 @@ returns-in_default-number-clause-numbers c =
 pub loop-i-preserved : goal.loop-i-preserved
 loop-i-preserved c =
     let fits : FitsSigned w64 c.in-Some-number.number = search rules in
-    let items : c.push.new.self.items ≡ c.loop-i.numbers.items ++ c.in-Some-number.number ∷ [] = rw (to_z-of_z w64 c.in-Some-number.number fits) at c.push.ensures.items in
-    (rw items
-     (Reads-more c.loop-i.numbers.items _ (fields_of c.args.row.now) (c.loop-i.i + 1) c.in-Some.field.now c.in-Some-number.number c.loop-i.invariant.0 (sym c.in-Some.ensures.value) (sym c.in-Some-number.ensures)),
-     rw items (omega (arith, length-append c.loop-i.numbers.items (c.in-Some-number.number ∷ []))))
+    let items : c.push.new.self.items ≡ c.loop-i.numbers.items ++ c.in-Some-number.number ∷ [] = rw (to_z-of_z w64 c.in-Some-number.number fits) at c.push.ensures.items in (
+      rw items
+          (Reads-more c.loop-i.numbers.items _ (fields_of c.args.row.now) (c.loop-i.i + 1) c.in-Some.field.now c.in-Some-number.number c.loop-i.invariant.0 (sym c.in-Some.ensures.value) (sym c.in-Some-number.ensures)),
+      rw items (omega (arith, length-append c.loop-i.numbers.items (c.in-Some-number.number ∷ []))),
+    )
 
 pub returns-clause-numbers : goal.returns-clause-numbers
 returns-clause-numbers c = sym (Reads-all c.loop-i.numbers.items _ (fields_of c.args.row.now) (c.loop-i.i + 1) (omega arith) c.loop-i.invariant.0)

@@ -1,4 +1,4 @@
-use Rattle.std.proofs.Common.{Bor, List, ℕ, ◌≡◌, ◌∙◌, ◌+◌, sym, refl, inl, inr, arith, Some, None, ◌∷◌, [], ◌++◌, length, length-append}
+use Rattle.std.proofs.Common.{Bor, List, ℕ, ◌≡◌, ◌∙◌, sym, refl, inl, inr, arith, Some, ◌∷◌, [], ◌++◌, length-append}
 use Rattle.csv.specs.Reading.{Reached, default_config, strip_bom}
 use Rattle.csv.specs.Records.{fields_of}
 use Rattle.csv.specs.declared.parser.State.TheVariants as st
@@ -34,10 +34,18 @@ loop-row-preserved c =
     let inv = c.loop-row.invariant in
     let s = rw (c.in-Some.is, c.in-Ok.is) at ((c.next.ensures.steps inv.2 inv.0).0 inv.1) in
     let m = rows-more (λ (s : Bor (List ℕ)). Some s.now) c.loop-row.row-iterator.rdr c.next.new.self.rdr (fields_of c.in-Ok.row) default_config st.StartRecord (strip_bom c.args.bytes.now) inv.4 inv.6 inv.3 inv.5 inv.7 s.0 in
-    let good : with_record c.args.clumps c.loop-row.front (fields_of c.in-Ok.row) ≡ Some c.take.new.self = rw c.in-Ok-true.field-0-test at c.in-Ok-true.ensures in
-    (s.0.3 ∙ inv.0, inl s.1, s.2, s.0.2 ∙ inv.3, m.0, m.1, inv.6 ++ fields_of c.in-Ok.row ∷ [], m.2,
-     read_on-more c.args.clumps first_front c.loop-row.front c.take.new.self inv.6 (fields_of c.in-Ok.row) inv.8 good,
-     omega (arith, inv.9, length-append inv.6 (fields_of c.in-Ok.row ∷ [])))
+    let good : with_record c.args.clumps c.loop-row.front (fields_of c.in-Ok.row) ≡ Some c.take.new.self = rw c.in-Ok-true.field-0-test at c.in-Ok-true.ensures in (
+      s.0.3 ∙ inv.0,
+      inl s.1,
+      s.2,
+      s.0.2 ∙ inv.3,
+      m.0,
+      m.1,
+      inv.6 ++ fields_of c.in-Ok.row ∷ [],
+      m.2,
+      read_on-more c.args.clumps first_front c.loop-row.front c.take.new.self inv.6 (fields_of c.in-Ok.row) inv.8 good,
+      omega (arith, inv.9, length-append inv.6 (fields_of c.in-Ok.row ∷ [])),
+    )
 
 pub returns-in-Ok-false : goal.returns-in-Ok-false
 returns-in-Ok-false c =

@@ -1,10 +1,7 @@
-use Rattle.std.proofs.Common.{rules, ◌≡◌, ◌+◌, ◌++◌, ◌∷◌, [], length, refl, ap, sym, ◌∙◌, arith}
+use Rattle.std.proofs.Common.{◌≡◌, ◌+◌, ◌++◌, ◌∷◌, [], length, ap, sym, ◌∙◌, arith}
 use Rattle.std.proofs.lemmas.List.Elements.{All-nil, All-push}
 use Rattle.std.proofs.lemmas.List.{length_push}
 use Rattle.std.proofs.lemmas.Result.{err_from_is_err_and}
-use Rattle.serde_json.specs.View.{items_view}
-use Rattle.dem_model.specs.Reading.{each_from}
-use Rattle.dem_scene.specs.Gives.{Gives, Fails}
 use Rattle.dem_scene.proofs.Elements.{rest_from, starts, goes_on, ends, is_done}
 use Rattle.dem_scene.proofs.list.read_each.Goals as goal
 

@@ -10,4 +10,4 @@ pub returns : goal.returns
 returns c =
     c.translated.ensures
     ∙ pose_places c.args.shapes.now c.args.bodies.now (sphere_at c.args.shapes.now c.args.s) c.args.self.now c.turned.result c.requires.pose
-      (c.turned.ensures.value ∙ ap (λ (b : Ball). turned_by c.args.self.now.rows (widened b.at)) c.ball_of-ball.ensures.value)
+    (c.turned.ensures.value ∙ ap (λ (b : Ball). turned_by c.args.self.now.rows (widened b.at)) c.ball_of-ball.ensures.value)

@@ -13,17 +13,17 @@ loop-k-init c = c.new-entries.ensures.items
 pub add_clump-requires : goal.add_clump-requires
 add_clump-requires c =
     let at : slice_get c.args.scene.now.clumps c.loop-k.k ≡ Some c.get.result.now =
-      ap (λ (s : SceneValue). slice_get s.clumps c.loop-k.k) (sym c.scene.view_is) ∙ c.get.ensures in
+    ap (λ (s : SceneValue). slice_get s.clumps c.loop-k.k) (sym c.scene.view_is) ∙ c.get.ensures in
     clump_template c.args.scene.now c.loop-k.k c.get.result.now (subst IsSound c.scene.view_is c.scene.invariant) at
 
 pub loop-k-preserved : goal.loop-k-preserved
 loop-k-preserved c =
     let at : slice_get c.args.scene.now.clumps c.loop-k.k ≡ Some c.get.result.now =
-      ap (λ (s : SceneValue). slice_get s.clumps c.loop-k.k) (sym c.scene.view_is) ∙ c.get.ensures in
+    ap (λ (s : SceneValue). slice_get s.clumps c.loop-k.k) (sym c.scene.view_is) ∙ c.get.ensures in
     table_more c.args.scene.now c.loop-k.k c.get.result.now _ _ at c.loop-k.invariant c.in_ok-add_clump.ensures
 
 pub invariant_of-result : goal.invariant_of-result
 invariant_of-result c =
     let past : length c.args.scene.now.clumps ≤ c.loop-k.k =
-      subst (λ (s : SceneValue). length s.clumps ≤ c.loop-k.k) c.scene.view_is (omega (arith, c.len-k-end.ensures, c.loop-k-test.false)) in
+    subst (λ (s : SceneValue). length s.clumps ≤ c.loop-k.k) c.scene.view_is (omega (arith, c.len-k-end.ensures, c.loop-k-test.false)) in
     table_all c.args.scene.now c.loop-k.k c.loop-k.entries.items (subst IsSound c.scene.view_is c.scene.invariant) past c.loop-k.invariant

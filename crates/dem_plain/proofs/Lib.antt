@@ -1,0 +1,2 @@
+pub mod HoldsFacts
+pub mod RunFacts

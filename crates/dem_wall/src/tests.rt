@@ -1,0 +1,84 @@
+//! Worked values of the unit normal and of both forms of wall.
+
+use crate::*;
+use dem_model::{Axis, Form, Touch, Wall};
+use dem_num::Vec3;
+
+const ONE: i64 = 1 << 30;
+
+#[test]
+fn unit_of_a_diagonal(rt: HostRuntime) {
+    assert_eq!(rt;
+        unit(Vec3 { x: 1, y: 1, z: 0 }),
+        Vec3 {
+            x: 759250124,
+            y: 759250124,
+            z: 0
+        }
+    );
+}
+
+/// A sphere of radius 1000 whose centre is 999 over a floor overlaps it by 1; at 1000 it doesn't touch.
+#[test]
+fn floor_is_touched_below_the_radius(rt: HostRuntime) {
+    let floor = Wall {
+        form: Form::Plane {
+            at: Vec3 { x: 0, y: 0, z: 0 },
+            dir: Vec3 { x: 0, y: 0, z: 1 },
+        },
+        mat: 0,
+    };
+    let up = Vec3 { x: 0, y: 0, z: ONE };
+    let low = Vec3 {
+        x: 20000,
+        y: 20000,
+        z: 999,
+    };
+    let high = Vec3 {
+        x: 20000,
+        y: 20000,
+        z: 1000,
+    };
+    assert_eq!(rt;
+        wall_touch(&floor, low, 1000),
+        Some(Touch { n: up, delta: 1 })
+    );
+    assert_eq!(rt; wall_touch(&floor, high, 1000), None);
+}
+
+/// A sphere of radius 1000 in a pipe of radius 3000 is pushed toward the axis once it is more than 2000 from it.
+#[test]
+fn pipe_pushes_inward(rt: HostRuntime) {
+    let pipe = Wall {
+        form: Form::Cylinder {
+            axis: Axis::Z,
+            at: Vec3 {
+                x: 5000,
+                y: 5000,
+                z: 0,
+            },
+            r: 3000,
+        },
+        mat: 0,
+    };
+    let left = Vec3 {
+        x: -ONE,
+        y: 0,
+        z: 0,
+    };
+    let out = Vec3 {
+        x: 7010,
+        y: 5000,
+        z: 400,
+    };
+    let edge = Vec3 {
+        x: 7000,
+        y: 5000,
+        z: 400,
+    };
+    assert_eq!(rt;
+        wall_touch(&pipe, out, 1000),
+        Some(Touch { n: left, delta: 10 })
+    );
+    assert_eq!(rt; wall_touch(&pipe, edge, 1000), None);
+}

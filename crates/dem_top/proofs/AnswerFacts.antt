@@ -1,6 +1,6 @@
 -- What a call comes to, from its job and its line; and what each status says.
-use Rattle.std.proofs.Common.{◌≡◌, ℕ, ◌≤◌, Bool, true, false, List, [], ◌++◌, Option, None, Some, Result, Ok, Err, ◌⊎◌, inl, inr, ⊎_elim, refl, sym, ap, ◌∙◌, arith, subst}
-use Rattle.std.specs.Io.KnownBytes.{Appends, Keeps, IsAtEnd}
+use Rattle.std.proofs.Common.{◌≡◌, ℕ, false, List, [], Option, None, Some, Result, Ok, Err, inl, inr, ⊎_elim, sym, ap, subst}
+use Rattle.std.specs.Io.KnownBytes.{Appends, Keeps}
 use Rattle.std.specs.declared.alloc.Global.{Global}
 use Rattle.std.specs.declared.string.String.{String}
 use Rattle.dem_outside.specs.Faults.{Rose}
@@ -13,9 +13,9 @@ use Rattle.dem_top.specs.declared.job.Stop.{Stop}
 use Rattle.dem_top.specs.declared.job.Stop.TheVariants as stops
 use Rattle.dem_top.specs.declared.answer.Answer.{Answer}
 use Rattle.dem_top.specs.declared.answer.Answer.TheVariants as answers
-use Rattle.dem_top.specs.Verdicts.{asks_plain, Verdict, Usage, Refused, Runs, verdict_of, usage_text, read_failed_text, out_text, note_text, run_status}
+use Rattle.dem_top.specs.Verdicts.{asks_plain, Usage, Refused, verdict_of, usage_text, read_failed_text, out_text, note_text, run_status}
 use Rattle.dem_top.specs.Jobs.{ForLeft, WritesScene, WritesFront, Does}
-use Rattle.dem_top.specs.Answers.{WritesOutput, PutsFault, PutsFront, NotesFront, Tells, Answers}
+use Rattle.dem_top.specs.Answers.{WritesOutput, PutsFault, PutsFront, Tells, Answers}
 use Rattle.dem_top.proofs.JobFacts.{ForLeft-weaker}
 
 -- what holds of all bytes holds of those that are left

@@ -1,15 +1,13 @@
 -- What the parts of a job promise, put together.
-use Rattle.std.proofs.Common.{◌≡◌, ℕ, ◌+◌, ◌<◌, ◌≤◌, Bool, true, false, List, [], ◌++◌, length, Option, None, Some, Result, Ok, Err, refl, sym, ap, ◌∙◌, ⊎_elim, length-append, append-nil, arith, subst}
+use Rattle.std.proofs.Common.{◌≡◌, ℕ, ◌<◌, ◌≤◌, true, List, ◌++◌, length, Option, None, Some, Result, Ok, Err, refl, sym, ap, ◌∙◌, ⊎_elim, length-append, append-nil, arith, subst}
 use Rattle.std.proofs.lemmas.Bool.{cases_lt, lt-ltb}
-use Rattle.std.specs.Io.KnownBytes.{Appends, Consumes, Keeps, IsAtEnd}
+use Rattle.std.specs.Io.KnownBytes.{Consumes, IsAtEnd}
 use Rattle.std.proofs.KnownBytes.{Keeps-refl}
 use Rattle.std.specs.declared.alloc.Global.{Global}
 use Rattle.std.specs.declared.string.String.{String}
-use Rattle.dem_outside.specs.Faults.{Rose}
 use Rattle.dem_outside.specs.Known.{AppendsFront}
 use Rattle.dem_outside.proofs.Fronts.{AppendsFront-nil}
 use Rattle.dem_model.specs.SceneValue.{SceneValue}
-use Rattle.dem_model.specs.Plain.{last_of}
 use Rattle.dem_model.specs.Output.{output_of}
 use Rattle.dem_model.specs.ReadingScene.{scene_from}
 use Rattle.dem_model.specs.declared.fault.SceneFault.{SceneFault}
@@ -21,7 +19,7 @@ use Rattle.dem_top.specs.declared.running.RunFault.{RunFault}
 use Rattle.dem_top.specs.declared.running.RunFault.TheVariants as running
 use Rattle.dem_top.specs.Running.{WritesRun}
 use Rattle.dem_top.specs.Stops.{scene_stop, run_stop}
-use Rattle.dem_top.specs.Verdicts.{asks_plain, Verdict, Usage, Refused, Runs, scene_verdict, verdict_of, out_text}
+use Rattle.dem_top.specs.Verdicts.{asks_plain, Runs, scene_verdict, verdict_of, out_text}
 use Rattle.dem_top.specs.Jobs.{ForLeft, WritesScene, WritesFront, Does}
 
 -- ---- the bytes that are left

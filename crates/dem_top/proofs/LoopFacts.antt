@@ -1,26 +1,22 @@
 -- What the parts of a run's loop promise, put together.
-use Rattle.std.proofs.Common.{◌≡◌, ℕ, ◌+◌, ◌-◌, ◌<◌, ◌≤◌, List, Option, None, Some, Result, Ok, Err, refl, sym, ap, ◌∙◌, arith, subst}
-use Rattle.std.specs.Io.KnownBytes.{Appends, Keeps}
+use Rattle.std.proofs.Common.{◌≡◌, ℕ, ◌-◌, ◌<◌, List, Option, None, Some, Ok, Err, sym, ap, ◌∙◌, arith, subst}
+use Rattle.std.specs.Io.KnownBytes.{Appends}
 use Rattle.dem_outside.specs.Faults.{Rose}
 use Rattle.dem_outside.specs.Known.{AppendsFront}
 use Rattle.dem_outside.proofs.Fronts.{AppendsFront-kept}
-use Rattle.dem_outside.proofs.Written.{Written}
-use Rattle.std.proofs.KnownBytes.{Appends-kept}
 use Rattle.dem_model.specs.SceneValue.{SceneValue}
 use Rattle.dem_model.specs.Step.{step_of}
-use Rattle.dem_model.specs.Plain.{first_state, last_of}
-use Rattle.dem_model.specs.Frames.{last_text}
+use Rattle.dem_model.specs.Plain.{first_state}
 use Rattle.dem_model.specs.Output.{output_of}
 use Rattle.dem_model.specs.declared.state.State.{State}
 use Rattle.dem_model.specs.declared.state.End.{End}
-use Rattle.dem_model.specs.declared.state.Last.{Last}
-use Rattle.dem_model.specs.declared.state.Last.TheVariants.{Done, Passed}
+use Rattle.dem_model.specs.declared.state.Last.TheVariants.{Passed}
 use Rattle.dem_plain.specs.Run.{Run}
 use Rattle.dem_top.specs.declared.running.RunFault.{RunFault}
 use Rattle.dem_top.specs.declared.running.RunFault.TheVariants.{WriteFault, OutOfMemory}
 use Rattle.dem_top.specs.Running.{due_text, Steps, WritesRun}
 use Rattle.dem_top.proofs.RunLaw.{step_of-step}
-use Rattle.dem_top.proofs.RunFacts.{StandsAt, StandsAt-start, first-failed, StandsAt-more, StandsAt-failed, StandsAt-front, StandsAt-end, LacksEnd, LacksEnd-closed, LacksEnd-failed, LacksEnd-kept}
+use Rattle.dem_top.proofs.RunFacts.{StandsAt, StandsAt-start, first-failed, StandsAt-more, StandsAt-failed, StandsAt-front, StandsAt-end, LacksEnd, LacksEnd-kept}
 
 -- what the loop keeps: the run is of this scene, it stands at its state, and no put failed
 pub record RunsOn (old now : Option (List ℕ)) (faults faults_now : ℕ) (s : SceneValue) (run : Run) : Type 0 where

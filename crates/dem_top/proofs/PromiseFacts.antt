@@ -1,5 +1,5 @@
 -- Each input is answered as it deserves: what the answer of a call rules out.
-use Rattle.std.proofs.Common.{◌≡◌, ℕ, Bool, true, false, List, Option, None, Some, Result, Ok, Err, ◌⊎◌, inl, inr, ⊎_elim, refl, sym, ap, ◌∙◌}
+use Rattle.std.proofs.Common.{◌≡◌, ℕ, true, false, List, Option, None, Some, Result, Ok, Err, ◌⊎◌, inl, inr, ⊎_elim, refl, sym, ◌∙◌}
 use Rattle.std.specs.Prelude.{IsOk, IsErr}
 use Rattle.std.specs.declared.alloc.Global.{Global}
 use Rattle.std.specs.declared.string.String.{String}
@@ -9,7 +9,7 @@ use Rattle.dem_model.specs.declared.fault.SceneFault.{SceneFault}
 use Rattle.dem_model.specs.ReadingScene.{scene_from}
 use Rattle.dem_top.specs.declared.answer.Answer.{Answer}
 use Rattle.dem_top.specs.declared.answer.Answer.TheVariants as answers
-use Rattle.dem_top.specs.Verdicts.{asks_plain, Verdict, Usage, Refused, Runs, scene_verdict, verdict_of}
+use Rattle.dem_top.specs.Verdicts.{asks_plain, Refused, Runs, scene_verdict, verdict_of}
 use Rattle.dem_top.specs.Jobs.{ForLeft}
 use Rattle.dem_top.specs.Answers.{WritesOutput, PutsFault, Answers, status_of, HasRun, IsCutShort, HasScene, HasFault}
 use Rattle.dem_top.proofs.JobFacts.{verdict-good}

@@ -1,9 +1,9 @@
 -- What the loop of a run keeps: what it wrote, what it has still to write, and how the run ends.
-use Rattle.std.proofs.Common.{◌≡◌, ℕ, zero, suc, ◌+◌, ◌-◌, ◌<◌, ◌≤◌, List, [], ◌++◌, Option, Some, Result, Ok, Err, refl, sym, ap, ◌∙◌, append_assoc, append-nil, arith, subst}
+use Rattle.std.proofs.Common.{◌≡◌, ℕ, zero, suc, ◌+◌, ◌-◌, ◌<◌, ◌≤◌, List, [], ◌++◌, Option, Ok, Err, refl, sym, ap, ◌∙◌, append_assoc, append-nil, arith, subst}
 use Rattle.std.specs.Io.KnownBytes.{Appends, Keeps}
 use Rattle.std.proofs.KnownBytes.{Appends-kept}
 use Rattle.dem_outside.specs.Known.{AppendsFront}
-use Rattle.dem_outside.proofs.Fronts.{AppendsFront-longer, AppendsFront-after}
+use Rattle.dem_outside.proofs.Fronts.{AppendsFront-longer}
 use Rattle.dem_outside.proofs.Written.{Written, Written-start, Written-piece, Written-front, Written-failed, Written-all}
 use Rattle.dem_model.specs.SceneValue.{SceneValue}
 use Rattle.dem_model.specs.Step.{step_of}

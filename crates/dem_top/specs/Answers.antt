@@ -17,7 +17,7 @@ use Rattle.dem_top.specs.declared.job.Stop.{Stop}
 use Rattle.dem_top.specs.declared.job.Stop.TheVariants as stops
 use Rattle.dem_top.specs.declared.answer.Answer.{Answer}
 use Rattle.dem_top.specs.declared.answer.Answer.TheVariants as answers
-use Rattle.dem_top.specs.Verdicts.{asks_plain, Verdict, Refused, Runs, verdict_of, usage_text, read_failed_text, note_text, run_status}
+use Rattle.dem_top.specs.Verdicts.{asks_plain, Refused, Runs, verdict_of, usage_text, read_failed_text, note_text, run_status}
 use Rattle.dem_top.specs.Jobs.{ForLeft, WritesFront}
 
 -- ---- the line on `note`

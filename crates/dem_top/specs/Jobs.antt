@@ -1,5 +1,5 @@
 -- What the parts of a call promise: the reading, the job, and the line on `note`.
-use Rattle.std.specs.Prelude.{◌≡◌, ℕ, ◌+◌, ◌≤◌, Bool, true, false, List, length, Option, None, Some, Result, Ok, Err, ◌⊎◌, Vec}
+use Rattle.std.specs.Prelude.{◌≡◌, ℕ, ◌+◌, ◌≤◌, true, false, List, length, Option, None, Some, Result, Ok, Err, Vec}
 use Rattle.std.specs.Io.KnownBytes.{Appends, Consumes, Keeps, IsAtEnd}
 use Rattle.std.specs.declared.alloc.Global.{Global}
 use Rattle.std.specs.declared.string.String.{String}
@@ -8,15 +8,13 @@ use Rattle.dem_outside.specs.Known.{AppendsFront}
 use Rattle.dem_model.specs.SceneValue.{SceneValue}
 use Rattle.dem_model.specs.Plain.{last_of}
 use Rattle.dem_model.specs.Output.{output_of}
-use Rattle.dem_model.specs.ReadingFaults.{fault_text}
-use Rattle.dem_model.specs.declared.fault.SceneFault.{SceneFault}
 use Rattle.dem_model.specs.declared.limits.TheConstants.{MAX_TEXT}
 use Rattle.dem_model.specs.declared.state.Last.{Last}
 use Rattle.dem_top.specs.declared.reading.ReadFault.{ReadFault}
 use Rattle.dem_top.specs.declared.reading.ReadFault.TheVariants as reading
 use Rattle.dem_top.specs.declared.job.Stop.{Stop}
 use Rattle.dem_top.specs.declared.job.Stop.TheVariants as stops
-use Rattle.dem_top.specs.Verdicts.{asks_plain, Verdict, Usage, Refused, Runs, verdict_of, usage_text, read_failed_text, out_text, note_text, run_status}
+use Rattle.dem_top.specs.Verdicts.{asks_plain, Refused, Runs, verdict_of, out_text}
 
 -- ---- the source
 

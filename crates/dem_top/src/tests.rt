@@ -1,4 +1,6 @@
 //! Whole calls over memory: the texts that a user sees, and reads and puts that fail.
+ghost use Rattle.std.specs.Prelude.{◌<◌};
+
 use crate::main_call;
 use dem_model::{List, OutOfMemory};
 use dem_outside::{Fail, MemSink, MemSource};

@@ -47,7 +47,7 @@ unfolding pairs_text pair_text pair_rows
 lines_pairs [] ordered stored = Lines-none
 lines_pairs (e ∷ es) ordered stored =
     Lines-row (codes "pair") (pos e.pair.a) (pos e.pair.b ∷ e.h.x ∷ e.h.y ∷ e.h.z ∷ []) (pairs_text es) (pair_rows es) refl
-        (pair_fit e (all_first IsOrdered e es ordered) (all_first IsStored e es stored)) (lines_pairs es (all_behind IsOrdered e es ordered) (all_behind IsStored e es stored))
+    (pair_fit e (all_first IsOrdered e es ordered) (all_first IsStored e es stored)) (lines_pairs es (all_behind IsOrdered e es ordered) (all_behind IsStored e es stored))
 
 lines_clumps : (i : ℕ) (bodies : List Body) (tail : List ℕ) (more : List (List (List ℕ))) → i + length bodies ≤ 16384 → All BodyFits bodies
     → Lines tail more → Lines (clumps_text i bodies ++ tail) (clump_rows i bodies ++ more)
@@ -55,17 +55,17 @@ unfolding clumps_text clump_text clump_rows
 lines_clumps i [] tail more few fit behind = behind
 lines_clumps i (b ∷ bs) tail more few fit behind =
     rw (append_assoc (clump_text i b) (clumps_text (i + 1) bs) tail)
-        (Lines-row (codes "clump") (pos i) (body_numbers b) (clumps_text (i + 1) bs ++ tail) (clump_rows (i + 1) bs ++ more) refl
-        (fits_small i (omega arith), all_first BodyFits b bs fit) (lines_clumps (i + 1) bs tail more (omega arith) (all_behind BodyFits b bs fit) behind))
+    (Lines-row (codes "clump") (pos i) (body_numbers b) (clumps_text (i + 1) bs ++ tail) (clump_rows (i + 1) bs ++ more) refl
+    (fits_small i (omega arith), all_first BodyFits b bs fit) (lines_clumps (i + 1) bs tail more (omega arith) (all_behind BodyFits b bs fit) behind))
 
 lines_state : (s : State) → IsWritable s → Lines (state_text s) (state_rows s)
 unfolding state_text head_text
 lines_state s is =
     let step = is.step in
     rw (append_assoc (head_text s.step) (clumps_text 0 s.bodies) (pairs_text s.held))
-        (Lines-row (codes "frame") (pos s.step) [] (clumps_text 0 s.bodies ++ pairs_text s.held) (clump_rows 0 s.bodies ++ pair_rows s.held) refl
-        (fits_small s.step (omega arith), tt)
-        (lines_clumps 0 s.bodies (pairs_text s.held) (pair_rows s.held) (let few = is.few in omega arith) is.bodies (lines_pairs s.held is.ordered is.stored)))
+    (Lines-row (codes "frame") (pos s.step) [] (clumps_text 0 s.bodies ++ pairs_text s.held) (clump_rows 0 s.bodies ++ pair_rows s.held) refl
+    (fits_small s.step (omega arith), tt)
+    (lines_clumps 0 s.bodies (pairs_text s.held) (pair_rows s.held) (let few = is.few in omega arith) is.bodies (lines_pairs s.held is.ordered is.stored)))
 
 -- no frame starts with a byte order mark
 no_mark : (s : State) → strip_bom (state_text s) ≡ state_text s
@@ -121,8 +121,8 @@ unfolding read_on
 state_reads s clumps is all =
     let few = is.few in
     rw (with_its_head clumps s.step is.step)
-        (clumps_read clumps s.step [] s.bodies (pair_rows s.held) (omega arith) (omega arith) is.bodies
-        ∙ pairs_read clumps s.step s.bodies [] s.held (omega arith) is.ordered is.stored is.ascending)
+    (clumps_read clumps s.step [] s.bodies (pair_rows s.held) (omega arith) (omega arith) is.bodies
+    ∙ pairs_read clumps s.step s.bodies [] s.held (omega arith) is.ordered is.stored is.ascending)
 
 whole_state : (s : State) (clumps : ℕ) → clumps ≡ length s.bodies → whole_frame clumps (front_of s.step s.bodies s.held) ≡ Some s
 unfolding whole_frame

@@ -59,22 +59,18 @@ returns-in-Ok-false-clause-reads c =
 pub returns-in-Ok-false-clause-back : goal.returns-in-Ok-false-clause-back
 returns-in-Ok-false-clause-back c = reads_back c.args.clumps c.args.bytes.now (Err (Bad c.in-Some-checked_add.number)) (returns-in-Ok-false-clause-reads c)
 
-pub returns-in-Some-finish-clause-reads : goal.returns-in-Some-finish-clause-reads
-returns-in-Some-finish-clause-reads c =
+pub returns-in-Some-finish-clause-back : goal.returns-in-Some-finish-clause-back
+returns-in-Some-finish-clause-back c =
     let inv = c.loop-row.invariant in
     let s = rw c.in-None.is at ((c.next.ensures.steps inv.2 inv.0).0 inv.1) in
     let ends = rows-end (λ (s : Bor (List ℕ)). Some s.now) c.loop-row.row-iterator.rdr c.next.new.self.rdr [] default_config inv.4 inv.3 inv.5 s in
+    reads_back c.args.clumps c.args.bytes.now (Ok c.in-Some-finish.state)
     (inv.6, (c.loop-row.row-iterator.rdr.state, inv.4, inv.7, ends), c.loop-row.front, inv.8, sym c.finish.ensures ∙ c.in-Some-finish.is)
 
-pub returns-in-Some-finish-clause-back : goal.returns-in-Some-finish-clause-back
-returns-in-Some-finish-clause-back c = reads_back c.args.clumps c.args.bytes.now (Ok c.in-Some-finish.state) (returns-in-Some-finish-clause-reads c)
-
-pub returns-in-None-finish-clause-reads : goal.returns-in-None-finish-clause-reads
-returns-in-None-finish-clause-reads c =
+pub returns-in-None-finish-clause-back : goal.returns-in-None-finish-clause-back
+returns-in-None-finish-clause-back c =
     let inv = c.loop-row.invariant in
     let s = rw c.in-None.is at ((c.next.ensures.steps inv.2 inv.0).0 inv.1) in
     let ends = rows-end (λ (s : Bor (List ℕ)). Some s.now) c.loop-row.row-iterator.rdr c.next.new.self.rdr [] default_config inv.4 inv.3 inv.5 s in
+    reads_back c.args.clumps c.args.bytes.now (Err (Short c.loop-row.rows))
     (inv.6, (c.loop-row.row-iterator.rdr.state, inv.4, inv.7, ends), c.loop-row.front, inv.8, sym c.finish.ensures ∙ c.in-None-finish.is, inv.9)
-
-pub returns-in-None-finish-clause-back : goal.returns-in-None-finish-clause-back
-returns-in-None-finish-clause-back c = reads_back c.args.clumps c.args.bytes.now (Err (Short c.loop-row.rows)) (returns-in-None-finish-clause-reads c)

@@ -3,3 +3,7 @@ pub mod StateFacts
 pub mod NumberFacts
 pub mod FieldFacts
 pub mod FrontFacts
+pub mod DecimalFacts
+pub mod LineFacts
+pub mod ReadOnFacts
+pub mod ReadBackFacts

@@ -1,6 +1,7 @@
 //! A frame read back from its text.
 ghost use Rattle.std.specs.Prelude.{◌<◌, ◌≤◌, length};
 ghost use Rattle.dem_frame.specs.Fronts.{ReadsFrame};
+ghost use Rattle.dem_frame.specs.ReadBack.{ReadsBack};
 
 use crate::front::{FrameFault, Front};
 use csv::ReaderBuilder;
@@ -12,7 +13,8 @@ pub fn read_frame(alloc: Global, bytes: &[u8], clumps: u32) -> Result<State, Fra
     requires some { 0 < clumps }
     requires clumps { clumps ≤ 16384 }
     requires size { length bytes.now ≤ 268435456 }
-    ensures { ReadsFrame clumps bytes.now result }
+    ensures reads { ReadsFrame clumps bytes.now result }
+    ensures back { ReadsBack clumps bytes.now result }
 {
     let reader = ReaderBuilder::new()
         .has_headers(false)

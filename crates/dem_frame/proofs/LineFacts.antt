@@ -1,0 +1,85 @@
+-- A row is one record, and a text of rows has no other records.
+use Rattle.std.proofs.Common.{◌≡◌, ℕ, ℤ, List, [], ◌∷◌, ◌++◌, codes, map, false, Some, None, FitsSigned, w64, sym, ap, subst, ◌∙◌, refl, append_assoc, append-nil}
+use Rattle.std.specs.Fmt.{signed_decimal}
+use Rattle.std.specs.List.{AllByRecursion, list_any, flat_map}
+use Rattle.std.proofs.lemmas.Option.{same_Some}
+use Rattle.csv.specs.Machine.{Read, next_record}
+use Rattle.csv.specs.Reading.{AreRecords, Reached, default_config}
+use Rattle.csv.specs.Writing.{default_writer, needs_byte, fields_text, is_blank}
+use Rattle.csv.specs.Writing as csv
+use Rattle.csv.specs.declared.parser.State.{State}
+use Rattle.csv.specs.declared.parser.State.TheVariants as st
+use Rattle.csv.proofs.RoundTrip.{read-write-many}
+use Rattle.dem_model.specs.Frames.{number_text, row_text}
+use Rattle.dem_frame.proofs.DecimalFacts.{plain_decimal}
+
+-- the fields of a row
+abbrev pub row_fields : List ℕ → List ℤ → List (List ℕ)
+row_fields name numbers = name ∷ map signed_decimal numbers
+
+-- the numbers of a row as csv writes them
+numbers_text : (zs : List ℤ) → AllByRecursion (FitsSigned w64) zs → fields_text default_writer (map signed_decimal zs) ≡ flat_map number_text zs
+unfolding fields_text number_text
+numbers_text [] fit = refl
+numbers_text (z ∷ zs) fit = rw (plain_decimal z fit.0, numbers_text zs fit.1) refl
+
+-- a row is what csv writes of its fields
+row_as_csv : (name : List ℕ) (z : ℤ) (zs : List ℤ) → list_any (needs_byte default_writer) name ≡ false → AllByRecursion (FitsSigned w64) (z ∷ zs)
+    → csv.row_text default_writer (row_fields name (z ∷ zs)) ≡ row_text name (z ∷ zs)
+unfolding row_text is_blank
+row_as_csv name z zs plain fit =
+    rw (plain, numbers_text (z ∷ zs) fit) refl
+
+-- a row with more behind it reads as its fields
+pub read_row : (name : List ℕ) (z : ℤ) (zs : List ℤ) (tail : List ℕ) → list_any (needs_byte default_writer) name ≡ false → AllByRecursion (FitsSigned w64) (z ∷ zs)
+    → next_record default_config st.StartRecord [] [] (row_text name (z ∷ zs) ++ tail) ≡ Some (row_fields name (z ∷ zs), st.StartRecord, tail)
+read_row name z zs tail plain fit =
+    rw (← row_as_csv name z zs plain fit) (read-write-many name (signed_decimal z) (map signed_decimal zs) tail)
+
+-- these are the lines of a text, one after the other
+unfoldable pub Lines : List ℕ → List (List (List ℕ)) → Type 0
+Lines text [] = text ≡ []
+Lines text (row ∷ rows) = (rest : List ℕ) × (next_record default_config st.StartRecord [] [] text ≡ Some (row, st.StartRecord, rest)) × Lines rest rows
+
+-- a row before other lines
+pub Lines-row : (name : List ℕ) (z : ℤ) (zs : List ℤ) (tail : List ℕ) (rows : List (List (List ℕ))) → list_any (needs_byte default_writer) name ≡ false
+    → AllByRecursion (FitsSigned w64) (z ∷ zs) → Lines tail rows → Lines (row_text name (z ∷ zs) ++ tail) (row_fields name (z ∷ zs) ∷ rows)
+unfolding Lines
+Lines-row name z zs tail rows plain fit more = (tail, read_row name z zs tail plain fit, more)
+
+-- no lines are left of an empty text
+pub Lines-none : Lines [] []
+unfolding Lines
+Lines-none = refl
+
+-- an empty text has no record
+no_record : next_record default_config st.StartRecord [] [] [] ≡ None
+unfolding next_record
+no_record = refl
+
+-- what was read of a text of lines are the first of its lines
+pub lines_front : (rows all : List (List (List ℕ))) (text ys : List ℕ) (s : State) → Lines text all → Reached default_config st.StartRecord text rows s ys
+    → (more : List (List (List ℕ))) × (all ≡ rows ++ more) × (s ≡ st.StartRecord) × Lines ys more
+unfolding Lines Reached
+lines_front [] all text ys s lines read = (all, refl, sym read.0, subst (λ (t : List ℕ). Lines t all) read.1 lines)
+lines_front (r ∷ rs) [] text ys s lines read =
+    let e = rw lines at read.1 in
+    let none : next_record default_config st.StartRecord [] [] [] ≡ None = no_record in cc
+lines_front (r ∷ rs) (a ∷ behind) text ys s lines read =
+    let same : read.0 ≡ (a, st.StartRecord, lines.0) = same_Some read.0 (a, st.StartRecord, lines.0) (sym read.1 ∙ lines.1) in
+    let first : r ≡ a = read.2 ∙ ap (λ (p : Read). p.0) same in
+    let rest = lines_front rs behind lines.0 ys s lines.2 (subst (λ (p : Read). Reached default_config p.1 p.2 rs s ys) same read.3) in
+    (rest.0, rw first (ap (λ (l : List (List (List ℕ))). a ∷ l) rest.1), rest.2, rest.3)
+
+-- at the end no line is left
+pub lines_end : (rows : List (List (List ℕ))) (text : List ℕ) → Lines text rows → next_record default_config st.StartRecord [] [] text ≡ None → rows ≡ []
+unfolding Lines
+lines_end [] text lines ends = refl
+lines_end (r ∷ rs) text lines ends = let e = sym lines.1 ∙ ends in cc
+
+-- the records of a text of lines are its lines
+pub lines_all : (rows all : List (List (List ℕ))) (text : List ℕ) → Lines text all → AreRecords default_config st.StartRecord text rows → all ≡ rows
+lines_all rows all text lines read =
+    let front = lines_front rows all text read.1 read.0 lines read.2 in
+    let none = lines_end front.0 read.1 front.3 (rw front.2 at read.3) in
+    front.1 ∙ ap (λ (l : List (List (List ℕ))). rows ++ l) none ∙ append-nil rows

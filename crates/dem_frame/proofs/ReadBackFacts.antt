@@ -1,0 +1,174 @@
+-- The frame of a state reads back as that state.
+use Rattle.std.proofs.Common.{◌≡◌, ℕ, ◌+◌, ◌-◌, ◌<◌, ◌≤◌, ◌^◌, All, pos, List, [], ◌∷◌, ◌++◌, codes, length, length-append, get_or, true, false, Option, Some, None, Result, Ok, Err, suc, zero, sym, ap, subst, ◌∙◌, refl, append_assoc, append-nil, arith, option_and_then}
+use Rattle.std.specs.Prelude.{slice_get}
+use Rattle.std.proofs.lemmas.Bool.{lt-ltb, le-ltb}
+use Rattle.std.proofs.lemmas.Option.{slice_get-get_or, same_Some}
+use Rattle.std.proofs.Math.Seq.{get_or-append_seam}
+use Rattle.dem_num.specs.Vectors.{widened, Within}
+use Rattle.csv.specs.Reading.{AreRecords, Reached, default_config, strip_bom}
+use Rattle.csv.specs.declared.parser.State.TheVariants as st
+use Rattle.dem_model.specs.Frames.{row_text, head_text, clump_text, clumps_text, pair_text, pairs_text, state_text}
+use Rattle.dem_model.specs.declared.state.Body.{Body}
+use Rattle.dem_model.specs.declared.state.Held.{Held}
+use Rattle.dem_model.specs.declared.state.State.{State}
+use Rattle.dem_frame.specs.Records.{continues}
+use Rattle.dem_frame.specs.Fronts.{first_front, read_on, with_record, with_head, with_body, last_of, whole_frame, ReadsFrame}
+use Rattle.dem_frame.specs.ReadBack.{FitEach, BodyFits, body_numbers, IsOrdered, IsStored, Ascends, IsWritable, GivesState, ReadsBack}
+use Rattle.dem_frame.specs.declared.front.Front.{Front}
+use Rattle.dem_frame.specs.declared.front.FrameFault.{FrameFault}
+use Rattle.dem_frame.specs.declared.front.FrameFault.TheVariants.{Bad, Short, OutOfMemory}
+use Rattle.dem_frame.proofs.LineFacts.{Lines, Lines-row, Lines-none, lines_front, lines_all}
+use Rattle.dem_frame.proofs.ReadOnFacts.{fits_small, all_first, all_behind, head_fields, clump_fields, pair_fields, pair_fit, head_reads, clump_reads, pair_reads}
+
+-- ---- the records of a state
+
+-- what was read of a frame: the head, these bodies and these pairs
+abbrev front_of : ℕ → List Body → List Held → Front
+front_of step bodies held = record { step = Some step; bodies = bodies; held = held }
+
+-- the records of these clumps, numbered from i on
+unfoldable clump_rows : ℕ → List Body → List (List (List ℕ))
+clump_rows i [] = []
+clump_rows i (b ∷ bs) = clump_fields i b ∷ clump_rows (i + 1) bs
+
+-- the records of these pairs
+unfoldable pair_rows : List Held → List (List (List ℕ))
+pair_rows [] = []
+pair_rows (e ∷ es) = pair_fields e ∷ pair_rows es
+
+-- the records of a state
+abbrev state_rows : State → List (List (List ℕ))
+state_rows s = head_fields s.step ∷ (clump_rows 0 s.bodies ++ pair_rows s.held)
+
+-- ---- its lines
+
+lines_pairs : (held : List Held) → All IsOrdered held → All IsStored held → Lines (pairs_text held) (pair_rows held)
+unfolding pairs_text pair_text pair_rows
+lines_pairs [] ordered stored = Lines-none
+lines_pairs (e ∷ es) ordered stored =
+    Lines-row (codes "pair") (pos e.pair.a) (pos e.pair.b ∷ e.h.x ∷ e.h.y ∷ e.h.z ∷ []) (pairs_text es) (pair_rows es) refl
+    (pair_fit e (all_first IsOrdered e es ordered) (all_first IsStored e es stored)) (lines_pairs es (all_behind IsOrdered e es ordered) (all_behind IsStored e es stored))
+
+lines_clumps : (i : ℕ) (bodies : List Body) (tail : List ℕ) (more : List (List (List ℕ))) → i + length bodies ≤ 16384 → All BodyFits bodies
+    → Lines tail more → Lines (clumps_text i bodies ++ tail) (clump_rows i bodies ++ more)
+unfolding clumps_text clump_text clump_rows
+lines_clumps i [] tail more few fit behind = behind
+lines_clumps i (b ∷ bs) tail more few fit behind =
+    rw (append_assoc (clump_text i b) (clumps_text (i + 1) bs) tail)
+    (Lines-row (codes "clump") (pos i) (body_numbers b) (clumps_text (i + 1) bs ++ tail) (clump_rows (i + 1) bs ++ more) refl
+    (fits_small i (omega arith), all_first BodyFits b bs fit) (lines_clumps (i + 1) bs tail more (omega arith) (all_behind BodyFits b bs fit) behind))
+
+lines_state : (s : State) → IsWritable s → Lines (state_text s) (state_rows s)
+unfolding state_text head_text
+lines_state s is =
+    let step = is.step in
+    rw (append_assoc (head_text s.step) (clumps_text 0 s.bodies) (pairs_text s.held))
+    (Lines-row (codes "frame") (pos s.step) [] (clumps_text 0 s.bodies ++ pairs_text s.held) (clump_rows 0 s.bodies ++ pair_rows s.held) refl
+    (fits_small s.step (omega arith), tt)
+    (lines_clumps 0 s.bodies (pairs_text s.held) (pair_rows s.held) (let few = is.few in omega arith) is.bodies (lines_pairs s.held is.ordered is.stored)))
+
+-- no frame starts with a byte order mark
+no_mark : (s : State) → strip_bom (state_text s) ≡ state_text s
+unfolding strip_bom state_text head_text row_text
+no_mark s = refl
+
+-- ---- what they read as
+
+with_its_head : (clumps step : ℕ) → step ≤ 1000000000 → with_record clumps first_front (head_fields step) ≡ Some (front_of step [] [])
+unfolding with_head
+with_its_head clumps step within = rw (head_reads step within) refl
+
+with_a_clump : (clumps step : ℕ) (bodies : List Body) (b : Body) → length bodies < clumps → clumps ≤ 16384 → BodyFits b
+    → with_record clumps (front_of step bodies []) (clump_fields (length bodies) b) ≡ Some (front_of step (bodies ++ b ∷ []) [])
+unfolding with_head with_body
+with_a_clump clumps step bodies b missing few fit = rw (lt-ltb (length bodies) clumps missing, clump_reads (length bodies) b (omega arith) fit) refl
+
+with_a_pair : (clumps step : ℕ) (bodies : List Body) (held : List Held) (e : Held) → clumps ≤ length bodies → IsOrdered e → IsStored e
+    → continues (last_of held) e.pair ≡ true → with_record clumps (front_of step bodies held) (pair_fields e) ≡ Some (front_of step bodies (held ++ e ∷ []))
+unfolding with_head with_body
+with_a_pair clumps step bodies held e all order small after = rw (le-ltb (length bodies) clumps all, pair_reads (last_of held) e order small after) refl
+
+clumps_read : (clumps step : ℕ) (front behind : List Body) (more : List (List (List ℕ))) → length front + length behind ≤ clumps → clumps ≤ 16384
+    → All BodyFits behind
+    → read_on clumps (front_of step front []) (clump_rows (length front) behind ++ more) ≡ read_on clumps (front_of step (front ++ behind) []) more
+unfolding read_on clump_rows
+clumps_read clumps step front [] more room few fit = rw (append-nil front) refl
+clumps_read clumps step front (b ∷ bs) more room few fit =
+    let size : length (front ++ b ∷ []) ≡ length front + 1 = length-append front (b ∷ []) in
+    let next = clumps_read clumps step (front ++ b ∷ []) bs more (omega arith) few (all_behind BodyFits b bs fit) in
+    rw (with_a_clump clumps step front b (omega arith) few (all_first BodyFits b bs fit)) (rw (size, append_assoc front (b ∷ []) bs) at next)
+
+-- the last of a list that was pushed to
+last_pushed : (held : List Held) (e : Held) → last_of (held ++ e ∷ []) ≡ Some e
+last_pushed held e =
+    let size : length (held ++ e ∷ []) ≡ length held + 1 = length-append held (e ∷ []) in
+    let place : length (held ++ e ∷ []) - 1 ≡ length held = omega arith in
+    rw place (slice_get-get_or (held ++ e ∷ []) (length held) e (omega arith) ∙ ap (λ (x : Held). Some x) (get_or-append_seam held e [] e))
+
+pairs_read : (clumps step : ℕ) (bodies : List Body) (front behind : List Held) → clumps ≤ length bodies → All IsOrdered behind
+    → All IsStored behind → Ascends (last_of front) behind
+    → read_on clumps (front_of step bodies front) (pair_rows behind) ≡ Some (front_of step bodies (front ++ behind))
+unfolding read_on pair_rows Ascends
+pairs_read clumps step bodies front [] all ordered stored after = rw (append-nil front) refl
+pairs_read clumps step bodies front (e ∷ es) all ordered stored after =
+    let rest : Ascends (last_of (front ++ e ∷ [])) es = rw (last_pushed front e) after.1 in
+    let next = pairs_read clumps step bodies (front ++ e ∷ []) es all (all_behind IsOrdered e es ordered) (all_behind IsStored e es stored) rest in
+    rw (with_a_pair clumps step bodies front e all (all_first IsOrdered e es ordered) (all_first IsStored e es stored) after.0) (rw (append_assoc front (e ∷ []) es) at next)
+
+-- the records of a state read as its parts
+state_reads : (s : State) (clumps : ℕ) → IsWritable s → clumps ≡ length s.bodies → read_on clumps first_front (state_rows s) ≡ Some (front_of s.step s.bodies s.held)
+unfolding read_on
+state_reads s clumps is all =
+    let few = is.few in
+    rw (with_its_head clumps s.step is.step)
+    (clumps_read clumps s.step [] s.bodies (pair_rows s.held) (omega arith) (omega arith) is.bodies
+    ∙ pairs_read clumps s.step s.bodies [] s.held (omega arith) is.ordered is.stored is.ascending)
+
+whole_state : (s : State) (clumps : ℕ) → clumps ≡ length s.bodies → whole_frame clumps (front_of s.step s.bodies s.held) ≡ Some s
+unfolding whole_frame
+whole_state s clumps all = rw (le-ltb (length s.bodies) clumps (omega arith)) refl
+
+-- ---- the frame as a whole
+
+-- the records behind those that were read
+read_on-behind : (clumps : ℕ) (o : Option Front) (rows more : List (List (List ℕ))) → ((n : Front) → read_on clumps n (rows ++ more) ≡ option_and_then (λ m. read_on clumps m more) (read_on clumps n rows))
+    → option_and_then (λ n. read_on clumps n (rows ++ more)) o ≡ option_and_then (λ m. read_on clumps m more) (option_and_then (λ n. read_on clumps n rows) o)
+read_on-behind clumps None rows more each = refl
+read_on-behind clumps (Some n) rows more each = each n
+
+read_on-append : (clumps : ℕ) (front : Front) (rows more : List (List (List ℕ))) → read_on clumps front (rows ++ more) ≡ option_and_then (λ m. read_on clumps m more) (read_on clumps front rows)
+unfolding read_on
+read_on-append clumps front [] more = refl
+read_on-append clumps front (row ∷ rows) more = read_on-behind clumps (with_record clumps front row) rows more (λ n. read_on-append clumps n rows more)
+
+-- where all records are read, none of them is bad
+none_bad : (clumps : ℕ) (first front whole : Front) (rows more : List (List (List ℕ))) (fields : List (List ℕ)) → read_on clumps first (rows ++ (fields ∷ more)) ≡ Some whole
+    → read_on clumps first rows ≡ Some front → with_record clumps front fields ≡ None → ⊥
+unfolding read_on
+none_bad clumps first front whole rows more fields all before bad =
+    let e = sym all ∙ read_on-append clumps first rows (fields ∷ more) in
+    let none = rw (before, bad) at e in cc
+
+-- what reading the frame of a state gives
+gives_state : (s : State) (text : List ℕ) (clumps : ℕ) (result : Result State FrameFault) → IsWritable s → text ≡ state_text s → clumps ≡ length s.bodies
+    → ReadsFrame clumps text result → GivesState s result
+gives_state s text clumps (Ok read) is same all reads =
+    let lines = lines_all reads.0 (state_rows s) (state_text s) (lines_state s is) (rw (same, no_mark s) at reads.1) in
+    let parts = rw (← lines) at reads.3 in
+    let front : reads.2 ≡ front_of s.step s.bodies s.held = same_Some reads.2 (front_of s.step s.bodies s.held) (sym parts ∙ state_reads s clumps is all) in
+    same_Some read s (sym reads.4 ∙ ap (λ (f : Front). whole_frame clumps f) front ∙ whole_state s clumps all)
+gives_state s text clumps (Err (Bad row)) is same all reads =
+    let reached = rw (same, no_mark s) at reads.3.2 in
+    let lines = lines_front (reads.0 ++ reads.1 ∷ []) (state_rows s) (state_text s) reads.3.1 reads.3.0 (lines_state s is) reached in
+    let rows : state_rows s ≡ reads.0 ++ (reads.1 ∷ lines.0) = lines.1 ∙ append_assoc reads.0 (reads.1 ∷ []) lines.0 in
+    none_bad clumps first_front reads.2 (front_of s.step s.bodies s.held) reads.0 lines.0 reads.1 (rw rows at (state_reads s clumps is all)) reads.4 reads.5
+gives_state s text clumps (Err (Short n)) is same all reads =
+    let lines = lines_all reads.0 (state_rows s) (state_text s) (lines_state s is) (rw (same, no_mark s) at reads.1) in
+    let parts = rw (← lines) at reads.3 in
+    let front : reads.2 ≡ front_of s.step s.bodies s.held = same_Some reads.2 (front_of s.step s.bodies s.held) (sym parts ∙ state_reads s clumps is all) in
+    let none = sym reads.4 ∙ ap (λ (f : Front). whole_frame clumps f) front ∙ whole_state s clumps all in cc
+gives_state s text clumps (Err OutOfMemory) is same all reads = tt
+
+-- what is read by the records of a text reads the frame of a state back as that state
+pub reads_back : (clumps : ℕ) (text : List ℕ) (result : Result State FrameFault) → ReadsFrame clumps text result → ReadsBack clumps text result
+reads_back clumps text result reads s is same all = gives_state s text clumps result is same all reads

@@ -49,11 +49,11 @@ module _ (words : List (String Global)) (left rest : Option (List ℕ)) (reads r
 
   -- the job and its line make the answer
   pub answered : (done : Result Last Stop) (answer : Answer) → Does words left rest reads reads_now held now puts puts_now done → Tells done note note_now notes notes_now answer → Whole answer
-  answered (Ok (Done step)) answer does tells = subst Whole (sym tells.0) (ran (Done step) does.0, does.1, tells.1)
-  answered (Ok (Passed e)) answer does tells = subst Whole (sym tells.0) (ran (Passed e) does.0, does.1, tells.1)
+  answered (Ok (Done step)) answer does tells = subst Whole (sym tells.0) (ran (Done step) does.0, does.1, tells.1, (does.2, does.3, tells.2))
+  answered (Ok (Passed e)) answer does tells = subst Whole (sym tells.0) (ran (Passed e) does.0, does.1, tells.1, (does.2, does.3, tells.2))
   answered (Err stops.Usage) answer does tells =
       ⊎_elim
-      (λ (put : (answer ≡ answers.Usage) × Appends note note_now usage_text × (notes_now ≡ notes)). subst Whole (sym put.0) (does.0, does.1, put.1))
+      (λ (put : (answer ≡ answers.Usage) × Appends note note_now usage_text × (notes_now ≡ notes)). subst Whole (sym put.0) (does.0, does.1, put.1, (does.2, does.3, put.2)))
       (λ (failed : (answer ≡ answers.WriteFailed) × AppendsFront note note_now usage_text × Rose notes notes_now).
       subst Whole (sym failed.0)
       (not-told usage_text does.1
@@ -63,7 +63,7 @@ module _ (words : List (String Global)) (left rest : Option (List ℕ)) (reads r
       ⊎_elim
       (λ (put : (answer ≡ answers.Refused) × Appends note note_now (fault_text fault) × (notes_now ≡ notes)).
       subst Whole (sym put.0)
-      (ForLeft-weaker left (λ bytes. verdict_of words bytes ≡ Refused fault) (PutsFault words note note_now) (λ bytes v. record { fault = fault; deserved = v; put = put.1 }) does.0, does.1, does.2))
+      (ForLeft-weaker left (λ bytes. verdict_of words bytes ≡ Refused fault) (PutsFault words note note_now) (λ bytes v. record { fault = fault; deserved = v; put = put.1 }) does.0, does.1, (does.2, does.3, put.2)))
       (λ (failed : (answer ≡ answers.WriteFailed) × AppendsFront note note_now (fault_text fault) × Rose notes notes_now).
       subst Whole (sym failed.0)
       (not-told (fault_text fault) does.1
@@ -72,12 +72,12 @@ module _ (words : List (String Global)) (left rest : Option (List ℕ)) (reads r
       tells
   answered (Err stops.ReadFailed) answer does tells =
       ⊎_elim
-      (λ (put : (answer ≡ answers.ReadFailed) × Appends note note_now read_failed_text × (notes_now ≡ notes)). subst Whole (sym put.0) (does.0, does.1, does.2, put.1))
+      (λ (put : (answer ≡ answers.ReadFailed) × Appends note note_now read_failed_text × (notes_now ≡ notes)). subst Whole (sym put.0) (does.0, does.1, does.2, put.1, does.3, put.2))
       (λ (failed : (answer ≡ answers.WriteFailed) × AppendsFront note note_now read_failed_text × Rose notes notes_now).
       subst Whole (sym failed.0)
       (inr failed.2, ForLeft-any left (WritesFront words held now) (λ bytes. front-kept held now (out_text (verdict_of words bytes)) does.2), inr (does.1, failed.1)))
       tells
   answered (Err stops.WriteFailed) answer does tells =
       subst Whole (sym tells.0)
-      (inl does.2, does.1, inl (ForLeft-any left (PutsFront words note note_now) (λ bytes. front-kept note note_now (note_text (verdict_of words bytes)) tells.1)))
-  answered (Err stops.OutOfMemory) answer does tells = subst Whole (sym tells.0) (does.0, does.1, tells.1)
+      (inl does.3, does.1, inl (ForLeft-any left (PutsFront words note note_now) (λ bytes. front-kept note note_now (note_text (verdict_of words bytes)) tells.1)))
+  answered (Err stops.OutOfMemory) answer does tells = subst Whole (sym tells.0) (does.0, does.1, tells.1, (does.2, does.3, tells.2))

@@ -74,6 +74,8 @@ module _ (words : List (String Global)) (left rest : Option (List ℕ)) (reads r
     good,
     ForLeft-weaker left (λ bytes. scene_from bytes ≡ scene_from read) (WritesFront words held held) (λ bytes _. AppendsFront-nil held (out_text (verdict_of words bytes)))
         (same-scene left rest read all ends),
+    same_count,
+    refl,
   )
   scene-refused held puts fault fails = (verdicts (Err fault) fails, Keeps-refl held, same_count, refl)
 
@@ -86,8 +88,8 @@ module _ (words : List (String Global)) (left rest : Option (List ℕ)) (reads r
   -- the run stopped
   pub run-stopped : (held now : Option (List ℕ)) (puts puts_now : ℕ) (s : SceneValue) (fault : RunFault) → scene_from read ≡ Ok s → WritesRun s held now puts puts_now (Err fault)
       → Does words left rest reads reads_now held now puts puts_now (Err (run_stop fault))
-  run-stopped held now puts puts_now s running.WriteFault is run = (good, fronts held now s is run.0, run.1)
-  run-stopped held now puts puts_now s running.OutOfMemory is run = (good, fronts held now s is run.0)
+  run-stopped held now puts puts_now s running.WriteFault is run = (good, fronts held now s is run.0, same_count, run.1)
+  run-stopped held now puts puts_now s running.OutOfMemory is run = (good, fronts held now s is run.0, same_count, run.1)
 
   -- the run was made
   pub run-made : (held now : Option (List ℕ)) (puts puts_now : ℕ) (s : SceneValue) (last : Last) → scene_from read ≡ Ok s → WritesRun s held now puts puts_now (Ok last)

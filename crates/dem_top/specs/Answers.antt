@@ -69,22 +69,26 @@ abbrev pub NotesFront : List (String Global) → (left : Option (List ℕ)) → 
 NotesFront words left reads reads_now note note_now =
     ForLeft left (PutsFront words note note_now) ⊎ (Rose reads reads_now × AppendsFront note note_now read_failed_text)
 
+-- no read and no put failed
+abbrev pub Calm : (reads reads_now puts puts_now notes notes_now : ℕ) → Type 0
+Calm reads reads_now puts puts_now notes notes_now = (reads_now ≡ reads) × (puts_now ≡ puts) × (notes_now ≡ notes)
+
 -- what a call did, by its answer
 abbrev pub Answers : List (String Global) → (left rest : Option (List ℕ)) → (reads reads_now : ℕ) → (held now : Option (List ℕ)) → (puts puts_now : ℕ) → (note note_now : Option (List ℕ)) → (notes notes_now : ℕ) → Answer → Type 0
 Answers words left rest reads reads_now held now puts puts_now note note_now notes notes_now answers.Done =
-    ForLeft left (WritesOutput words held now 0) × IsAtEnd rest × Keeps note note_now
+    ForLeft left (WritesOutput words held now 0) × IsAtEnd rest × Keeps note note_now × Calm reads reads_now puts puts_now notes notes_now
 Answers words left rest reads reads_now held now puts puts_now note note_now notes notes_now answers.Passed =
-    ForLeft left (WritesOutput words held now 3) × IsAtEnd rest × Keeps note note_now
+    ForLeft left (WritesOutput words held now 3) × IsAtEnd rest × Keeps note note_now × Calm reads reads_now puts puts_now notes notes_now
 Answers words left rest reads reads_now held now puts puts_now note note_now notes notes_now answers.Usage =
-    (asks_plain words ≡ false) × Keeps held now × Appends note note_now usage_text
+    (asks_plain words ≡ false) × Keeps held now × Appends note note_now usage_text × Calm reads reads_now puts puts_now notes notes_now
 Answers words left rest reads reads_now held now puts puts_now note note_now notes notes_now answers.Refused =
-    ForLeft left (PutsFault words note note_now) × Keeps held now × (reads_now ≡ reads)
+    ForLeft left (PutsFault words note note_now) × Keeps held now × Calm reads reads_now puts puts_now notes notes_now
 Answers words left rest reads reads_now held now puts puts_now note note_now notes notes_now answers.ReadFailed =
-    (asks_plain words ≡ true) × Rose reads reads_now × Keeps held now × Appends note note_now read_failed_text
+    (asks_plain words ≡ true) × Rose reads reads_now × Keeps held now × Appends note note_now read_failed_text × (puts_now ≡ puts) × (notes_now ≡ notes)
 Answers words left rest reads reads_now held now puts puts_now note note_now notes notes_now answers.WriteFailed =
     (Rose puts puts_now ⊎ Rose notes notes_now) × ForLeft left (WritesFront words held now) × NotesFront words left reads reads_now note note_now
 Answers words left rest reads reads_now held now puts puts_now note note_now notes notes_now answers.OutOfMemory =
-    (asks_plain words ≡ true) × ForLeft left (WritesFront words held now) × Keeps note note_now
+    (asks_plain words ≡ true) × ForLeft left (WritesFront words held now) × Keeps note note_now × Calm reads reads_now puts puts_now notes notes_now
 
 -- the status of an answer
 abbrev pub status_of : Answer → ℕ

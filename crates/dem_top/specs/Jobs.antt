@@ -28,7 +28,7 @@ abbrev pub ReadsAll : (left rest : Option (List ℕ)) → (faults faults_now : �
 ReadsAll left rest faults faults_now (Ok bytes) =
     Consumes left rest bytes.items × (length bytes.items ≤ MAX_TEXT → IsAtEnd rest) × (length bytes.items ≤ MAX_TEXT + 1) × (faults_now ≡ faults)
 ReadsAll left rest faults faults_now (Err reading.Failed) = Rose faults faults_now
-ReadsAll left rest faults faults_now (Err reading.OutOfMemory) = Unit {0}
+ReadsAll left rest faults faults_now (Err reading.OutOfMemory) = faults_now ≡ faults
 
 -- ---- the job
 
@@ -47,12 +47,13 @@ WritesFront words held now bytes = AppendsFront held now (out_text (verdict_of w
 abbrev pub Does : List (String Global) → (left rest : Option (List ℕ)) → (reads reads_now : ℕ) → (held now : Option (List ℕ)) → (puts puts_now : ℕ) → Result Last Stop → Type 0
 Does words left rest reads reads_now held now puts puts_now (Ok last) =
     ForLeft left (WritesScene words held now last) × IsAtEnd rest × (reads_now ≡ reads) × (puts_now ≡ puts)
-Does words left rest reads reads_now held now puts puts_now (Err stops.Usage) = (asks_plain words ≡ false) × Keeps held now × (puts_now ≡ puts)
+Does words left rest reads reads_now held now puts puts_now (Err stops.Usage) =
+    (asks_plain words ≡ false) × Keeps held now × (reads_now ≡ reads) × (puts_now ≡ puts)
 Does words left rest reads reads_now held now puts puts_now (Err (stops.Refused fault)) =
     ForLeft left (λ bytes. verdict_of words bytes ≡ Refused fault) × Keeps held now × (reads_now ≡ reads) × (puts_now ≡ puts)
 Does words left rest reads reads_now held now puts puts_now (Err stops.ReadFailed) =
     (asks_plain words ≡ true) × Rose reads reads_now × Keeps held now × (puts_now ≡ puts)
 Does words left rest reads reads_now held now puts puts_now (Err stops.WriteFailed) =
-    (asks_plain words ≡ true) × ForLeft left (WritesFront words held now) × Rose puts puts_now
+    (asks_plain words ≡ true) × ForLeft left (WritesFront words held now) × (reads_now ≡ reads) × Rose puts puts_now
 Does words left rest reads reads_now held now puts puts_now (Err stops.OutOfMemory) =
-    (asks_plain words ≡ true) × ForLeft left (WritesFront words held now)
+    (asks_plain words ≡ true) × ForLeft left (WritesFront words held now) × (reads_now ≡ reads) × (puts_now ≡ puts)

@@ -22,6 +22,7 @@ fn carries_by_pair(rt: HostRuntime) -> Result<(), Fail> {
     first.add(Pair { a: 0, b: 3 })?;
     let empty = carried(&mut contacts, first.settle())?;
     assert_eq!(rt; empty.len(), 0);
+    assert_eq!(rt; contacts.list().len(), 2);
     contacts.set(0, seven);
 
     let mut second = PairList::empty(rt.alloc()).raw(5);

@@ -24,15 +24,15 @@ static RECIPROCALS: [u16; 256] = [
     33393, 33326, 33259, 33192, 33126, 33060, 32994, 32929, 32864, 32800,
 ];
 
-/// At most the root of a number of 64 bits, and seldom less by more than one below 2^58.
-pub fn short_guess(x: u64) -> u64 {
+/// About the root of a number of 64 bits: for most below 2^58 it is the root or one less.
+pub(crate) fn short_guess(x: u64) -> u64 {
     let even = x.leading_zeros() & 62;
     let scaled = x << even;
     high(scaled, reciprocal(scaled)) >> 31 >> (even / 2)
 }
 
-/// At most the root of a number of 128 bits, and seldom less by more than one.
-pub fn long_guess(x: u128) -> u64 {
+/// About the root of a number of 128 bits: for most it is the root or one less.
+pub(crate) fn long_guess(x: u128) -> u64 {
     let even = x.leading_zeros() & 126;
     let scaled = x << even;
     let top = (scaled >> 64) as u64;
@@ -57,7 +57,7 @@ fn reciprocal(scaled: u64) -> u64 {
     refined(scaled, refined(scaled, found << 48))
 }
 
-/// One step of Newton. The small number taken away keeps it below, in spite of the rounding.
+/// One step of Newton. The small number taken away is to keep it below, in spite of the rounding.
 fn refined(scaled: u64, reciprocal: u64) -> u64 {
     let one = high(scaled, high(reciprocal, reciprocal));
     let share = ((3 << 62) - 8u64).wrapping_sub(one);
@@ -79,7 +79,7 @@ fn low(x: u128) -> u64
 }
 
 /// The square of a number.
-pub fn square(s: u64) -> u128
+pub(crate) fn square(s: u64) -> u128
     ensures { result ≡ s * s }
 {
     s as u128 * s as u128

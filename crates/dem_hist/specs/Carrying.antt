@@ -1,33 +1,16 @@
 -- What is held of the pairs of a list, by place, and carrying it to the next list.
-use Rattle.std.specs.Prelude.{◌≡◌, ℕ, ◌<◌, ◌≤◌, false, List, [], ◌∷◌, length, map, Option, slice_index_or}
-use Rattle.std.specs.List.{AllWithin, cons_option}
-use Rattle.std.specs.Option.{option_map}
+use Rattle.std.specs.Prelude.{◌≡◌, ℕ, ◌<◌, ◌≤◌, false, List, length, Option, slice_index_or}
+use Rattle.std.specs.List.{AllWithin}
 use Rattle.std.specs.Ordering.{is_lt}
 use Rattle.std.specs.declared.cmp.Ordering.TheVariants.{Less}
 use Rattle.dem_num.specs.declared.vector.Vec3.{Vec3}
 use Rattle.dem_model.specs.declared.state.Pair.{Pair}
-use Rattle.dem_model.specs.declared.state.Held.{Held}
-use Rattle.dem_model.specs.Step.{held_at}
 use Rattle.dem_list.specs.Ascending.{Pairs, pair_cmp}
 
 -- a list in use, and an entry by place: what is held of the pair there, or None
 pub record HeldByPlace : Type 0 where
   pub list : Pairs
   pub entries : List (Option Vec3)
-
--- what is held of a pair
-abbrev pub held_of : Pair → Vec3 → Held
-held_of p h = record { pair = p; h = h }
-
--- what is held of the pairs that have an entry, in order
-unfoldable pub kept_of : List Pair → List (Option Vec3) → List Held
-kept_of [] es = []
-kept_of (p ∷ ps) [] = []
-kept_of (p ∷ ps) (e ∷ es) = cons_option (option_map (held_of p) e) (kept_of ps es)
-
--- each pair of a new list keeps its entry, and a pair that had none has None
-unfoldable pub carried : List Pair → List (Option Vec3) → List Pair → List (Option Vec3)
-carried ps es new = map (held_at (kept_of ps es)) new
 
 -- the pairs at the places below i come before a pair
 abbrev pub AllBefore : List Pair → ℕ → Pair → Type 0

@@ -4,7 +4,8 @@ ghost use Rattle.std.specs.Prelude.{◌≡◌, ◌<◌, ◌≤◌, ◌++◌, [],
 ghost use Rattle.std.specs.Ordering.{is_lt};
 ghost use Rattle.dem_list.specs.Ascending.{pair_cmp};
 ghost use Rattle.dem_model.specs.Step.{held_at};
-ghost use Rattle.dem_hist.specs.Carrying.{AllBefore, IsReached, kept_of, carried};
+ghost use Rattle.dem_model.specs.Carry.{kept_of, carried};
+ghost use Rattle.dem_hist.specs.Carrying.{AllBefore, IsReached};
 
 use dem_list::PairList;
 use dem_model::{OutOfMemory, Pair};

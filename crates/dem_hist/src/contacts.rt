@@ -1,7 +1,8 @@
 //! A list in use, and what is held of each of its pairs.
 
-ghost use Rattle.std.specs.Prelude.{◌≡◌, ◌<◌, [], length, slice_get, slice_set, Some, OnOk, OnErr, IfOk, IfErr};
-ghost use Rattle.dem_hist.specs.Carrying.{HeldByPlace, carried};
+ghost use Rattle.std.specs.Prelude.{◌≡◌, ◌<◌, ◌≤◌, [], length, take, slice_get, slice_set, Some, OnOk, OnErr, IfOk, IfErr};
+ghost use Rattle.dem_model.specs.Carry.{carried};
+ghost use Rattle.dem_hist.specs.Carrying.{HeldByPlace};
 
 use crate::carry::fill;
 use dem_list::PairList;
@@ -60,6 +61,16 @@ impl Contacts {
         ensures { self.new ≡ record { list = self.old.list; entries = slice_set self.old.entries i h } }
     {
         self.entries[i as usize] = h;
+    }
+
+    /// Takes as many of these entries into use as there are pairs, and gives back those that were in use; both by place.
+    pub fn exchange(&mut self, entries: &mut Vec<Option<Vec3>>)
+        requires { length self.old.list.pairs ≤ length entries.old.items }
+        ensures taken { self.new ≡ record { list = self.old.list; entries = take (length self.old.list.pairs) entries.old.items } }
+        ensures given { entries.new.items ≡ self.old.entries }
+    {
+        entries.truncate(self.entries.len());
+        std::mem::swap(&mut self.entries, entries);
     }
 
     /// Takes the next list into use: a pair in both keeps its entry, a pair only in the new one has None.

@@ -9,11 +9,16 @@ use std::test::Fail;
 
 const SEVEN: Option<Vec3> = Some(Vec3 { x: 7, y: 0, z: 0 });
 
-/// Takes the list of (0, 3) into use, and of (0, `b`) where that is another.
-fn carry(contacts: &mut Contacts, alloc: Global, b: u32) -> Result<PairList, OutOfMemory> {
+/// Takes the list of the pairs of sphere 0 with these three into use.
+fn carry(
+    contacts: &mut Contacts,
+    alloc: Global,
+    second: [u32; 3],
+) -> Result<PairList, OutOfMemory> {
     let mut pairs = PairList::empty(alloc).raw(1);
-    pairs.add(Pair { a: 0, b: 3 })?;
-    pairs.add(Pair { a: 0, b })?;
+    pairs.add(Pair { a: 0, b: second[0] })?;
+    pairs.add(Pair { a: 0, b: second[1] })?;
+    pairs.add(Pair { a: 0, b: second[2] })?;
     match contacts.carry(pairs.settle()) {
         Ok(old) => Ok(old),
         Err((_, fault)) => Err(fault),
@@ -23,13 +28,29 @@ fn carry(contacts: &mut Contacts, alloc: Global, b: u32) -> Result<PairList, Out
 #[test]
 fn carries_by_pair(rt: HostRuntime) -> Result<(), Fail> {
     let mut contacts = Contacts::new(rt.alloc());
-    carry(&mut contacts, rt.alloc(), 3)?;
-    assert_eq!(rt; contacts.list().len(), 1);
-    contacts.set(0, SEVEN);
-    let old = carry(&mut contacts, rt.alloc(), 1)?;
-    assert_eq!(rt; old.len(), 1);
+    carry(&mut contacts, rt.alloc(), [1, 3, 3])?;
     assert_eq!(rt; contacts.list().len(), 2);
+    contacts.set(0, SEVEN);
+    let old = carry(&mut contacts, rt.alloc(), [1, 2, 3])?;
+    assert_eq!(rt; old.len(), 2);
+    assert_eq!(rt; contacts.list().len(), 3);
+    assert_eq!(rt; contacts.held(0), SEVEN);
+    assert_eq!(rt; contacts.held(1), None);
+    assert_eq!(rt; contacts.held(2), None);
+    carry(&mut contacts, rt.alloc(), [2, 2, 2])?;
+    assert_eq!(rt; contacts.list().len(), 1);
     assert_eq!(rt; contacts.held(0), None);
-    assert_eq!(rt; contacts.held(1), SEVEN);
+    Ok(())
+}
+
+#[test]
+fn exchanges_its_entries(rt: HostRuntime) -> Result<(), Fail> {
+    let mut contacts = Contacts::new(rt.alloc());
+    carry(&mut contacts, rt.alloc(), [5, 5, 5])?;
+    assert_eq!(rt; contacts.list().len(), 1);
+    let mut entries = vec![in rt.alloc(); SEVEN; 2]?;
+    contacts.exchange(&mut entries);
+    assert_eq!(rt; contacts.held(0), SEVEN);
+    assert_eq!(rt; entries.as_slice(), [None].as_slice());
     Ok(())
 }

@@ -20,3 +20,5 @@ pub mod ReadingScene
 pub mod Frames
 pub mod Output
 pub mod Ranges
+pub mod Near
+pub mod Carry

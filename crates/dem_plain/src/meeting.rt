@@ -1,11 +1,10 @@
-//! One pair of the plain step: whether it is apart, what is held for it, and what it does where it touches.
+//! One pair of the plain step: what is held for it, and what it does where it touches.
 
 ghost use Rattle.std.specs.Prelude.{◌≡◌, ◌<◌, ◌≤◌, ◌^◌, IfSome, All};
 ghost use Rattle.std.specs.Option.{option_map, unwrap_or};
 ghost use Rattle.dem_num.specs.Vectors.{widened, narrowed, no_vector, Within};
 ghost use Rattle.dem_model.specs.Centres.{touch_of};
 ghost use Rattle.dem_model.specs.Motion.{AreInside, AreSound, IsPair};
-ghost use Rattle.dem_model.specs.Pairs.{sphere_count, limit_of, apart};
 ghost use Rattle.dem_model.specs.Ranges.{IsTouch, IsSmall};
 ghost use Rattle.dem_model.specs.Step.{held_at, meeting, same_pair};
 ghost use Rattle.dem_plain.specs.Run.{AreStored, meeting_with};
@@ -16,20 +15,6 @@ use dem_num::Vec3;
 use dem_shape::{Centers, Shapes};
 use std::marker::Brand;
 use std::sync::ledger::{Blank, Ledger};
-
-/// Whether the second of a pair is later than the first, and a wall or a sphere of another clump.
-#[tactic(auto, unfolding(dem_model::specs::Pairs::apart))]
-pub fn is_apart(shapes: &Shapes, pair: Pair) -> bool
-    requires first { pair.a < sphere_count shapes.now }
-    requires later { pair.a < pair.b }
-    ensures { result ≡ apart shapes.now pair }
-{
-    if pair.b < shapes.spheres() {
-        shapes.clump_of(pair.a) != shapes.clump_of(pair.b)
-    } else {
-        true
-    }
-}
 
 /// What a pair does where it touches.
 pub fn push_of(

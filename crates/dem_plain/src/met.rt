@@ -11,11 +11,11 @@ ghost use Rattle.dem_force.specs.Loads.{AreLoads};
 ghost use Rattle.dem_plain.specs.Run.{AreStored};
 ghost use Rattle.dem_plain.specs.Holds.{Holds, one_apart};
 
-use crate::meeting::{is_apart, push_of};
+use crate::meeting::push_of;
 use dem_force::add_push;
 use dem_model::{Body, Held, List, Load, OutOfMemory, Pair};
 use dem_num::Wide3;
-use dem_shape::{Centers, Shapes};
+use dem_shape::{Centers, Shapes, is_apart};
 use std::alloc::Global;
 
 /// What the pairs so far have come to: a load per clump, and what is held of each pair that touches.

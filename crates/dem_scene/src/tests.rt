@@ -30,82 +30,82 @@ fn changed(alloc: Global, from: &str, to: &str) -> Result<String, AllocError> {
     }
 }
 
+/// A piece of the least scene, what stands in its place, and the line that the text is refused with then.
+const CHANGES: [(&str, &str, &str); 19] = [
+    ("100]}]}", "100]}]", "scene: not JSON\n"),
+    (
+        "\"r\":10",
+        "\"r\":0",
+        "scene: range templates.spheres.r 0 0\n",
+    ),
+    ("\"t\":0", "\"t\":1", "scene: index clumps.t 0 0\n"),
+    ("\"version\":1", "\"version\":3", "scene: version\n"),
+    ("\"steps\":0", "\"steps\":1.5", "scene: field steps 0 0\n"),
+    (
+        "{\"version\"",
+        "{\"gravit\":[0,0,0],\"version\"",
+        "scene: unknown scene 0 0\n",
+    ),
+    (
+        "[{\"t\":0,\"p\":[100,100,100]}]",
+        "[]",
+        "scene: count clumps 0 0\n",
+    ),
+    (
+        "\"t\":0",
+        "\"v\":[65537,0,0],\"t\":0",
+        "scene: over limit 0\n",
+    ),
+    ("\"p\":[100,", "\"p\":[65536,", "scene: outside box 0\n"),
+    (
+        "\"version\":1",
+        "\"version\":1.0",
+        "scene: field version 0 0\n",
+    ),
+    ("\"speed\":65536", "\"speed\":0", "scene: range speed 0 0\n"),
+    (
+        "\"mat\":0",
+        "\"mat\":1",
+        "scene: index templates.spheres.mat 0 0\n",
+    ),
+    (
+        "\"clumps\"",
+        "\"walls\":[{\"mat\":0}],\"clumps\"",
+        "scene: field walls.form 0 0\n",
+    ),
+    (
+        "\"p\":[100,100,100]",
+        "\"p\":[100,100]",
+        "scene: field clumps.p 0 0\n",
+    ),
+    (
+        "\"t\":0",
+        "\"t\":0,\"q\":[536870911,0,0,0]",
+        "scene: range clumps.q 0 0\n",
+    ),
+    ("\"t\":0", "\"t\":0,\"q\":[536870912,0,0,0]", ""),
+    ("\"t\":0", "\"t\":0,\"q\":[2147483648,0,0,0]", ""),
+    ("\"t\":0", "\"t\":-1", "scene: index clumps.t 0 0\n"),
+    ("100]}]", "100]},{\"t\":0}]", "scene: field clumps.p 1 0\n"),
+];
+
+/// A text, and the line that it is refused with.
+const TEXTS: [(&str, &str); 3] = [
+    ("", "scene: not JSON\n"),
+    ("{}", "scene: field version 0 0\n"),
+    ("[]", "scene: field scene 0 0\n"),
+];
+
 #[test]
 fn refuses_with_the_first_fault(rt: HostRuntime) -> Result<(), Fail> {
-    for (from, to, line) in [
-        ("100]}]}", "100]}]", "scene: not JSON\n"),
-        (
-            "\"r\":10",
-            "\"r\":0",
-            "scene: range templates.spheres.r 0 0\n",
-        ),
-        ("\"t\":0", "\"t\":1", "scene: index clumps.t 0 0\n"),
-        ("\"version\":1", "\"version\":3", "scene: version\n"),
-        ("\"steps\":0", "\"steps\":1.5", "scene: field steps 0 0\n"),
-        (
-            "{\"version\"",
-            "{\"gravit\":[0,0,0],\"version\"",
-            "scene: unknown scene 0 0\n",
-        ),
-        (
-            "[{\"t\":0,\"p\":[100,100,100]}]",
-            "[]",
-            "scene: count clumps 0 0\n",
-        ),
-        (
-            "\"t\":0",
-            "\"v\":[65537,0,0],\"t\":0",
-            "scene: over limit 0\n",
-        ),
-        ("\"p\":[100,", "\"p\":[65536,", "scene: outside box 0\n"),
-        (
-            "\"version\":1",
-            "\"version\":1.0",
-            "scene: field version 0 0\n",
-        ),
-        ("\"speed\":65536", "\"speed\":0", "scene: range speed 0 0\n"),
-        (
-            "\"mat\":0",
-            "\"mat\":1",
-            "scene: index templates.spheres.mat 0 0\n",
-        ),
-        (
-            "\"clumps\"",
-            "\"walls\":[{\"mat\":0}],\"clumps\"",
-            "scene: field walls.form 0 0\n",
-        ),
-        (
-            "\"p\":[100,100,100]",
-            "\"p\":[100,100]",
-            "scene: field clumps.p 0 0\n",
-        ),
-        (
-            "\"t\":0",
-            "\"t\":0,\"q\":[536870911,0,0,0]",
-            "scene: range clumps.q 0 0\n",
-        ),
-        ("\"t\":0", "\"t\":0,\"q\":[536870912,0,0,0]", ""),
-        ("\"t\":0", "\"t\":0,\"q\":[2147483648,0,0,0]", ""),
-        ("\"t\":0", "\"t\":-1", "scene: index clumps.t 0 0\n"),
-        ("100]}]", "100]},{\"t\":0}]", "scene: field clumps.p 1 0\n"),
-    ] {
+    for (from, to, line) in CHANGES {
         let text = changed(rt.alloc(), from, to)?;
-        assert_eq!(rt;
-            line_of(rt.alloc(), text.as_bytes()).as_slice(),
-            line.as_bytes(),
-            "{to}"
-        );
+        let found = line_of(rt.alloc(), text.as_bytes());
+        assert_eq!(rt; found.as_slice(), line.as_bytes(), "{to}");
     }
-    for (text, line) in [
-        ("", "scene: not JSON\n"),
-        ("{}", "scene: field version 0 0\n"),
-        ("[]", "scene: field scene 0 0\n"),
-    ] {
-        assert_eq!(rt;
-            line_of(rt.alloc(), text.as_bytes()).as_slice(),
-            line.as_bytes(),
-            "{text}"
-        );
+    for (text, line) in TEXTS {
+        let found = line_of(rt.alloc(), text.as_bytes());
+        assert_eq!(rt; found.as_slice(), line.as_bytes(), "{text}");
     }
     Ok(())
 }

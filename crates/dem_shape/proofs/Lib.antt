@@ -1,3 +1,4 @@
 pub mod FillFacts
 pub mod PoseFacts
 pub mod TableFacts
+pub mod StepFacts

@@ -1,5 +1,5 @@
 -- What a table of spheres says at a place.
-use Rattle.std.proofs.Common.{◌≡◌, ℕ, ◌<◌, ◌≤◌, List, length, get_or, map, refl, sym, ap, ◌∙◌, arith, subst, [], ◌∷◌, ◌++◌, ◌+◌, take, Some}
+use Rattle.std.proofs.Common.{◌≡◌, ℕ, ◌<◌, ◌≤◌, List, length, get_or, map, sym, ap, ◌∙◌, arith, subst, [], ◌∷◌, ◌++◌, ◌+◌, take, Some}
 use Rattle.std.specs.Prelude.{slice_get}
 use Rattle.std.specs.Option.{option_map_or}
 use Rattle.dem_model.specs.declared.shape.Template.{Template}

@@ -1,15 +1,22 @@
-//! The table of spheres of a scene, and the centres of all spheres in a state.
+//! The table of spheres of a scene, the centres of all spheres in a state, and the bodies of a step.
 //!
 //! `Shapes` numbers the spheres through all clumps in order and answers each one's clump, template sphere, arm and
-//! movement bound in constant time; `Centers` holds a centre per sphere. Means: `Spheres`, `Centres`, `Motion` of dem_model.
-//! Callers rest on: a Shapes is seen as its scene, a Centers as the list of centres; `fill` makes them those of the bodies.
-//! Takes memory: the two `new`. Not here: touch (dem_force), rotations (dem_turn).
+//! movement bound in constant time; `is_apart` tells which pairs may touch at all; `Centers` holds a centre per sphere,
+//! `Snapshot` the bodies of a step. Means: `Spheres`, `Pairs`, `Centres`, `Motion` of dem_model. Callers rest on: a Shapes
+//! is seen as its scene, a Centers as the list of centres; `fill` makes them those of the bodies.
+//! Takes memory: the three `new`. Not here: touch (dem_force), rotations (dem_turn).
 #![tactic(auto)]
 
+mod apart;
 mod centers;
 mod entry;
 mod pose;
 mod shapes;
+mod snapshot;
+#[cfg(test)]
+mod tests;
 
+pub use apart::is_apart;
 pub use centers::Centers;
 pub use shapes::Shapes;
+pub use snapshot::Snapshot;

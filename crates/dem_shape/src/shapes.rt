@@ -1,6 +1,6 @@
 //! The table of spheres of a scene, in the order of their numbers.
 
-ghost use Rattle.std.specs.Prelude.{◌≡◌, ◌<◌, ◌≤◌, ◌++◌, length, map, OnOk, IfOk};
+ghost use Rattle.std.specs.Prelude.{◌≡◌, ◌<◌, ◌≤◌, ◌++◌, ◌^◌, length, map, OnOk, IfOk};
 ghost use Rattle.dem_num.specs.Vectors.{widened};
 ghost use Rattle.dem_num.specs.Rotations.{arm_of};
 ghost use Rattle.dem_model.specs.Motion.{per_step_of, IsSphere};
@@ -96,8 +96,10 @@ impl<'s> Shapes<'s> {
     /// How far a sphere may move in one step per axis, in u: with its clump at the speed limit, and by the swing of its arm.
     pub fn per_step(&self, s: u32) -> u64
         requires { s < sphere_count self.now }
-        ensures { result ≡ per_step_of self.now (sphere_at self.now s).ball }
+        ensures value { result ≡ per_step_of self.now (sphere_at self.now s).ball }
+        ensures size { result ≤ 2 ^ 27 }
     {
+        let _scene = self.scene();
         self.entry(s).per_step
     }
 

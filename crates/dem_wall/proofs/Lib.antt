@@ -1,2 +1,3 @@
 pub mod DirectionFacts
 pub mod PlaneFacts
+pub mod UnitFacts

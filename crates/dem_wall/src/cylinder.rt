@@ -1,4 +1,4 @@
-//! Cylinders along an axis, with the sphere inside: the distance from the axis, and the touch.
+//! Cylinders along an axis, with the sphere inside: the distance from the axis, and whether it touches or is near.
 
 ghost use Rattle.std.specs.Prelude.{◌≡◌, pos, ◌+◌, ◌*◌, ◌^◌, ◌<◌, ◌≤◌, ◌+ℤ◌, ◌-ℤ◌, ◌*ℤ◌, ◌≤ℤ◌, IfSome, unsigned_abs};
 ghost use Rattle.std.specs.Int.{int_min, int_max};
@@ -13,6 +13,7 @@ ghost use Rattle.dem_model.specs.Touch.{
   inward,
   cylinder_touch,
 };
+ghost use Rattle.dem_model.specs.Near.{cylinder_near};
 ghost use Rattle.dem_model.specs.Ranges.{IsTouch};
 ghost use Rattle.dem_wall.specs.Inside.{axis_distance_of, inward_normal};
 
@@ -37,6 +38,33 @@ pub fn touch_cylinder(axis: Axis, at: Vec3, radius: u64, c: Vec3, r: u32) -> Opt
     } else {
         None
     }
+}
+
+/// Whether a sphere inside a cylinder is near it, where it may move at most `extra` u per axis.
+#[tactic(auto, unfolding(dem_model::specs::Near::cylinder_near))]
+pub fn near_cylinder(axis: Axis, at: Vec3, radius: u64, c: Vec3, r: u32, extra: u64) -> bool
+    requires room { r < radius }
+    requires radius_small { radius ≤ 2 ^ 35 }
+    requires point_small { Within (widened at) (2 ^ 36) }
+    requires centre_small { Within (widened c) (2 ^ 36) }
+    requires extra_small { extra ≤ 2 ^ 37 }
+    ensures { result ≡ cylinder_near axis at radius c r extra }
+{
+    let offset = offset_from(at, c);
+    let free = radius as u128 - r as u128;
+    let e = moved_out(first_part(axis, offset), extra);
+    let f = moved_out(second_part(axis, offset), extra);
+    free * free < e * e + f * f
+}
+
+/// The size of a component, moved outward.
+fn moved_out(component: i128, extra: u64) -> u128
+    requires component_small { AtMost component (2 ^ 37) }
+    requires extra_small { extra ≤ 2 ^ 37 }
+    ensures value { result ≡ unsigned_abs component + extra }
+    ensures size { result ≤ 2 ^ 38 }
+{
+    component.unsigned_abs() + extra as u128
 }
 
 /// How a sphere touches a cylinder, from its offset from the cylinder's point, where it does.

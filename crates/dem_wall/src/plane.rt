@@ -1,4 +1,4 @@
-//! Planes: the unit normal, the gap in front of a plane, and the touch of a sphere.
+//! Planes: the unit normal, the gap in front of a plane, and whether a sphere touches it or is near it.
 
 ghost use Rattle.std.specs.Prelude.{◌≡◌, pos, ◌+◌, ◌*◌, ◌^◌, ◌<◌, ◌≤◌, ◌-ℤ◌, ◌*ℤ◌, ◌≤ℤ◌, int_lt, false, IfSome, unsigned_abs};
 ghost use Rattle.std.specs.Int.{int_min};
@@ -6,6 +6,7 @@ ghost use Rattle.dem_num.specs.Numbers.{AtMost, quotient, shifted, root_of};
 ghost use Rattle.dem_num.specs.Vectors.{widened, Within, is_zero, norm2_of, dot_of, difference_of};
 ghost use Rattle.dem_model.specs.Sound.{IsBetween, EachBetween};
 ghost use Rattle.dem_model.specs.Touch.{unit_of, gap_of, plane_touch};
+ghost use Rattle.dem_model.specs.Near.{plane_near};
 ghost use Rattle.dem_model.specs.Ranges.{IsTouch};
 
 use dem_model::{MAX_OVERLAP, Touch};
@@ -113,7 +114,7 @@ pub fn touch_plane(at: Vec3, dir: Vec3, c: Vec3, r: u32) -> Option<Touch>
 {
     let n = unit(dir);
     let gap = gap(at, n, c);
-    if is_closer(gap, r) {
+    if is_closer(gap, r as u64) {
         Some(Touch {
             n,
             delta: overlap(sub(r as i128, gap)),
@@ -123,11 +124,25 @@ pub fn touch_plane(at: Vec3, dir: Vec3, c: Vec3, r: u32) -> Option<Touch>
     }
 }
 
-/// Whether a gap is less than a radius.
-fn is_closer(gap: i128, r: u32) -> bool
-    ensures { result ≡ int_lt gap (pos r) }
+/// Whether a sphere is near a plane, where it may move at most `extra` u per axis.
+/// Each component of the normal is at most 1, so that the gap changes by at most three times that.
+#[tactic(auto, unfolding(dem_model::specs::Near::plane_near, dem_model::specs::Touch::gap_of))]
+pub fn near_plane(at: Vec3, dir: Vec3, c: Vec3, r: u32, extra: u64) -> bool
+    requires some { is_zero (widened dir) ≡ false }
+    requires small { Within (widened dir) (2 ^ 20) }
+    requires point_small { Within (widened at) (2 ^ 36) }
+    requires centre_small { Within (widened c) (2 ^ 36) }
+    requires extra_small { extra ≤ 2 ^ 37 }
+    ensures { result ≡ plane_near at dir c r extra }
 {
-    gap < r as i128
+    is_closer(gap(at, unit(dir), c), r as u64 + 3 * extra)
+}
+
+/// Whether a gap is less than a distance.
+fn is_closer(gap: i128, distance: u64) -> bool
+    ensures { result ≡ int_lt gap (pos distance) }
+{
+    gap < distance as i128
 }
 
 /// An overlap, no greater than the greatest one.

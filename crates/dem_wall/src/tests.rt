@@ -44,6 +44,8 @@ fn floor_is_touched_below_the_radius(rt: HostRuntime) {
         Some(Touch { n: up, delta: 1 })
     );
     assert_eq!(rt; wall_touch(&floor, high, 1000), None);
+    assert_eq!(rt; wall_near(&floor, high, 1000, 0), false);
+    assert_eq!(rt; wall_near(&floor, high, 1000, 1), true);
 }
 
 /// A sphere of radius 1000 in a pipe of radius 3000 is pushed toward the axis once it is more than 2000 from it.
@@ -81,4 +83,6 @@ fn pipe_pushes_inward(rt: HostRuntime) {
         Some(Touch { n: left, delta: 10 })
     );
     assert_eq!(rt; wall_touch(&pipe, edge, 1000), None);
+    assert_eq!(rt; wall_near(&pipe, edge, 1000, 0), false);
+    assert_eq!(rt; wall_near(&pipe, edge, 1000, 1), true);
 }

@@ -1,12 +1,13 @@
-//! How a sphere touches a wall, of either form.
+//! Whether and how a sphere touches a wall, of either form, and whether it is near it.
 
 ghost use Rattle.std.specs.Prelude.{◌≡◌, pos, ◌^◌, ◌<◌, ◌≤◌, IfSome};
 ghost use Rattle.dem_model.specs.Sound.{EachBetween};
 ghost use Rattle.dem_model.specs.Touch.{wall_touch_of};
+ghost use Rattle.dem_model.specs.Near.{wall_near_of};
 ghost use Rattle.dem_model.specs.Ranges.{IsWallFor, IsTouch};
 
-use crate::cylinder::touch_cylinder;
-use crate::plane::touch_plane;
+use crate::cylinder::{near_cylinder, touch_cylinder};
+use crate::plane::{near_plane, touch_plane};
 use dem_model::{Form, MAX_POINT, Touch, Wall};
 use dem_num::Vec3;
 
@@ -25,5 +26,23 @@ pub fn wall_touch(wall: &Wall, c: Vec3, r: u32) -> Option<Touch>
             at,
             r: radius,
         } => touch_cylinder(axis, at, radius, c, r),
+    }
+}
+
+/// Whether a sphere with centre `c` and radius `r` is near a wall: whether it may touch it after moving at most `extra` u per axis.
+#[tactic(auto, unfolding(dem_model::specs::Near::wall_near_of))]
+pub fn wall_near(wall: &Wall, c: Vec3, r: u32, extra: u64) -> bool
+    requires wall { IsWallFor r wall.now.form }
+    requires centre { EachBetween (pos 0) (pos MAX_POINT) c }
+    requires extra_small { extra ≤ 2 ^ 37 }
+    ensures { result ≡ wall_near_of wall.now c r extra }
+{
+    match wall.form {
+        Form::Plane { at, dir } => near_plane(at, dir, c, r, extra),
+        Form::Cylinder {
+            axis,
+            at,
+            r: radius,
+        } => near_cylinder(axis, at, radius, c, r, extra),
     }
 }

@@ -1,7 +1,8 @@
 use Rattle.std.proofs.Common.{◌≡◌, ℕ, ◌<◌, ◌≤◌, length, map, take, get_or}
 use Rattle.dem_model.specs.declared.state.Pair.{Pair}
 use Rattle.dem_model.specs.Step.{held_at}
-use Rattle.dem_hist.specs.Carrying.{AllBefore, kept_of}
+use Rattle.dem_model.specs.Carry.{kept_of}
+use Rattle.dem_hist.specs.Carrying.{AllBefore}
 use Rattle.dem_hist.proofs.carry.fill.Given as goal
 
 abbrev pub invariant-loop-j : goal.invariant-loop-j

@@ -1,4 +1,4 @@
-use Rattle.std.proofs.Common.{◌≡◌, refl, sym, ap, ◌∙◌, length, arith}
+use Rattle.std.proofs.Common.{refl, ap, ◌∙◌, length, arith}
 use Rattle.dem_shape.proofs.FillFacts.{IsFilled-more, IsFilled-all}
 use Rattle.dem_shape.proofs.PoseFacts.{pose_own}
 use Rattle.dem_shape.proofs.centers.Centers.fill.Goals as goal

@@ -1,7 +1,3 @@
-use Rattle.std.proofs.Common.{◌≡◌, ◌<◌, length, map, take}
-use Rattle.dem_model.specs.Centres.{placed}
-use Rattle.dem_model.specs.Pairs.{sphere_count}
-use Rattle.dem_model.specs.Spheres.{spheres_of}
 use Rattle.dem_shape.proofs.FillFacts.{IsFilled}
 use Rattle.dem_shape.proofs.centers.Centers.fill.Given as goal
 

@@ -1,5 +1,5 @@
-use Rattle.std.proofs.Common.{◌≡◌, subst, sym, ◌∙◌, ap}
-use Rattle.dem_num.specs.Vectors.{widened, Within}
+use Rattle.std.proofs.Common.{◌∙◌, ap}
+use Rattle.dem_num.specs.Vectors.{widened}
 use Rattle.dem_num.specs.Rotations.{turned_by}
 use Rattle.dem_model.specs.Pairs.{sphere_at}
 use Rattle.dem_model.specs.declared.shape.Ball.{Ball}

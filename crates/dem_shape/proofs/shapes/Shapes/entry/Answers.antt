@@ -1,4 +1,4 @@
-use Rattle.std.proofs.Common.{◌≡◌, ◌<◌, ap, ◌∙◌, sym, subst, arith, length, vec_len}
+use Rattle.std.proofs.Common.{◌≡◌, ◌<◌, ap, ◌∙◌, subst, arith}
 use Rattle.dem_model.specs.Motion.{IsSphere}
 use Rattle.dem_model.specs.Pairs.{sphere_at, sphere_count}
 use Rattle.dem_model.proofs.SoundFacts.{sphere_at-sound}

@@ -1,4 +1,4 @@
-use Rattle.std.proofs.Common.{◌≡◌, ◌++◌, map, take}
+use Rattle.std.proofs.Common.{◌≡◌, map, take}
 use Rattle.dem_model.specs.Spheres.{spheres_from}
 use Rattle.dem_shape.specs.Table.{entry_of}
 use Rattle.dem_shape.proofs.shapes.Shapes.new.Given as goal

@@ -1,4 +1,4 @@
-use Rattle.std.proofs.Common.{◌≡◌, sym, ap, ◌∙◌, arith, length}
+use Rattle.std.proofs.Common.{◌≡◌, ap, arith}
 use Rattle.dem_model.specs.Pairs.{sphere_count}
 use Rattle.dem_shape.proofs.TableFacts.{table_length, table_small}
 use Rattle.dem_shape.proofs.shapes.Shapes.spheres.Goals as goal

@@ -1,0 +1,21 @@
+//! Which pairs may touch at all.
+
+ghost use Rattle.std.specs.Prelude.{◌≡◌, ◌<◌};
+ghost use Rattle.dem_model.specs.Pairs.{sphere_count, apart};
+
+use crate::shapes::Shapes;
+use dem_model::Pair;
+
+/// Whether the second of a pair is later than the first, and a wall or a sphere of another clump.
+#[tactic(auto, unfolding(dem_model::specs::Pairs::apart))]
+pub fn is_apart(shapes: &Shapes, pair: Pair) -> bool
+    requires first { pair.a < sphere_count shapes.now }
+    requires later { pair.a < pair.b }
+    ensures { result ≡ apart shapes.now pair }
+{
+    if pair.b < shapes.spheres() {
+        shapes.clump_of(pair.a) != shapes.clump_of(pair.b)
+    } else {
+        true
+    }
+}

@@ -29,4 +29,4 @@ pub use law::contact;
 pub use loads::add_push;
 pub use mixing::{mix, wall_side};
 pub use sides::{law_between, push_between, side_of};
-pub use touching::touch;
+pub use touching::{center, touch, wall_beside};

@@ -72,7 +72,7 @@ fn radii(shapes: &Shapes, pair: Pair) -> u64
 }
 
 /// The centre of a sphere, in the box.
-fn center(shapes: &Shapes, centers: &Centers, s: u32) -> Vec3
+pub fn center(shapes: &Shapes, centers: &Centers, s: u32) -> Vec3
     requires sphere { s < sphere_count shapes.now }
     requires centres { AreInside shapes.now centers.now }
     ensures value { result ≡ centre_at centers.now s }
@@ -84,7 +84,7 @@ fn center(shapes: &Shapes, centers: &Centers, s: u32) -> Vec3
 }
 
 /// The wall of a pair, which is one that the pair's sphere may meet.
-fn wall_beside(shapes: &Shapes, pair: Pair) -> Wall
+pub fn wall_beside(shapes: &Shapes, pair: Pair) -> Wall
     requires pair { IsPair shapes.now pair }
     requires wall { sphere_count shapes.now ≤ pair.b }
     ensures value { result ≡ wall_at shapes.now pair.b }

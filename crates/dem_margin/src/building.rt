@@ -1,0 +1,128 @@
+//! The list of all near pairs of a snapshot, every pair tested.
+
+ghost use Rattle.std.specs.Prelude.{◌≡◌, ◌+◌, ◌^◌, ◌<◌, ◌≤◌, ◌++◌, [], length, OnOk, IfOk, IfErr};
+ghost use Rattle.dem_model.specs.Centres.{centres_of};
+ghost use Rattle.dem_model.specs.Motion.{AreInside, AreSound};
+ghost use Rattle.dem_model.specs.Near.{near_of};
+ghost use Rattle.dem_model.specs.Pairs.{sphere_count, limit_of};
+ghost use Rattle.dem_margin.specs.Found.{found_below, found_in_row, found_here};
+
+use crate::margin::tested;
+use dem_list::{PairList, RawPairs};
+use dem_model::{OutOfMemory, Pair};
+use dem_shape::{Centers, Shapes, Snapshot, is_apart};
+use std::alloc::Global;
+
+/// The near pairs of a snapshot, from its step, in the buffer of a list; after a refusal a list of no pairs from that step comes back.
+pub fn build_all(
+    alloc: Global,
+    shapes: &Shapes,
+    snap: &Snapshot,
+    drift: u32,
+    buf: PairList,
+) -> Result<PairList, (PairList, OutOfMemory)>
+    requires sound { AreSound shapes.now snap.now.bodies }
+    requires drift { drift ≤ 1024 }
+    ensures near { IfOk result (λ list. list.pairs ≡ near_of shapes.now drift (centres_of shapes.now snap.now.bodies)) }
+    ensures from { IfOk result (λ list. list.from ≡ snap.now.step) }
+    ensures refused { IfErr result (λ refused. refused.0 ≡ record { from = snap.now.step; pairs = [] }) }
+{
+    let mut raw = buf.raw(snap.step);
+    match add_all(alloc, &mut raw, shapes, snap, drift) {
+        Ok(()) => Ok(raw.settle()),
+        Err(fault) => Err((emptied(raw, snap.step), fault)),
+    }
+}
+
+/// A list of no pairs, from this step, in the buffer of what was found.
+fn emptied(raw: RawPairs, step: u32) -> PairList
+    ensures { result ≡ record { from = step; pairs = [] } }
+{
+    raw.settle().raw(step).settle()
+}
+
+/// Adds all near pairs of a snapshot.
+fn add_all(
+    alloc: Global,
+    raw: &mut RawPairs,
+    shapes: &Shapes,
+    snap: &Snapshot,
+    drift: u32,
+) -> Result<(), OutOfMemory>
+    requires sound { AreSound shapes.now snap.now.bodies }
+    requires drift { drift ≤ 1024 }
+    requires empty { raw.old.pairs ≡ [] }
+    ensures found { OnOk result (raw.new.pairs ≡ near_of shapes.now drift (centres_of shapes.now snap.now.bodies)) }
+    ensures from { raw.new.from ≡ raw.old.from }
+{
+    let _scene = shapes.scene();
+    let mut centers = Centers::new(alloc, shapes)?;
+    centers.fill(shapes, snap.bodies.as_slice());
+    add_rows(raw, shapes, &centers, drift)
+}
+
+/// Adds the near pairs of all spheres.
+fn add_rows(
+    raw: &mut RawPairs,
+    shapes: &Shapes,
+    centers: &Centers,
+    drift: u32,
+) -> Result<(), OutOfMemory>
+    requires centres { AreInside shapes.now centers.now }
+    requires drift { drift ≤ 1024 }
+    requires empty { raw.old.pairs ≡ [] }
+    ensures found { OnOk result (raw.new.pairs ≡ near_of shapes.now drift centers.now) }
+    ensures from { raw.new.from ≡ raw.old.from }
+{
+    for a in 0..shapes.spheres() {
+        add_row(raw, shapes, centers, drift, a)?;
+    }
+    Ok(())
+}
+
+/// Adds the near pairs of one sphere with all that is later.
+fn add_row(
+    raw: &mut RawPairs,
+    shapes: &Shapes,
+    centers: &Centers,
+    drift: u32,
+    a: u32,
+) -> Result<(), OutOfMemory>
+    requires centres { AreInside shapes.now centers.now }
+    requires drift { drift ≤ 1024 }
+    requires sphere { a < sphere_count shapes.now }
+    requires before { raw.old.pairs ≡ found_below shapes.now drift centers.now a }
+    ensures found { OnOk result (raw.new.pairs ≡ found_below shapes.now drift centers.now (a + 1)) }
+    ensures from { raw.new.from ≡ raw.old.from }
+{
+    let _scene = shapes.scene();
+    let limit = shapes.spheres() + shapes.walls();
+    for b in a + 1..limit {
+        add_pair(raw, shapes, centers, drift, Pair { a, b })?;
+    }
+    Ok(())
+}
+
+/// Adds one pair, if it is apart and near.
+fn add_pair(
+    raw: &mut RawPairs,
+    shapes: &Shapes,
+    centers: &Centers,
+    drift: u32,
+    pair: Pair,
+) -> Result<(), OutOfMemory>
+    requires centres { AreInside shapes.now centers.now }
+    requires drift { drift ≤ 1024 }
+    requires first { pair.a < sphere_count shapes.now }
+    requires second { pair.b < limit_of shapes.now }
+    requires later { pair.a < pair.b }
+    requires room { length raw.old.pairs + 1 < 2 ^ 32 }
+    ensures found { OnOk result (raw.new.pairs ≡ raw.old.pairs ++ found_here shapes.now drift centers.now pair) }
+    ensures from { raw.new.from ≡ raw.old.from }
+{
+    if is_apart(shapes, pair) && tested(shapes, centers, pair, drift) {
+        raw.add(pair)
+    } else {
+        Ok(())
+    }
+}

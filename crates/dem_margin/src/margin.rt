@@ -1,0 +1,98 @@
+//! How far a sphere may reach before a list is too old, and whether a pair is near.
+
+ghost use Rattle.std.specs.Prelude.{◌≡◌, ◌+◌, ◌^◌, ◌<◌, ◌≤◌, not, nat_lt, unsigned_abs};
+ghost use Rattle.dem_num.specs.Vectors.{widened, difference_of, Within};
+ghost use Rattle.dem_model.specs.Motion.{AreInside, IsPair};
+ghost use Rattle.dem_model.specs.Near.{drift_of, reach_of, spheres_near, near as is_near};
+ghost use Rattle.dem_model.specs.Pairs.{sphere_count};
+
+use dem_force::{center, wall_beside};
+use dem_model::{Pair, Steps};
+use dem_num::{Vec3, Wide3, sub3, widen};
+use dem_shape::{Centers, Shapes};
+use dem_wall::wall_near;
+use std::sync::ledger::Ledger;
+
+/// How far a sphere may reach in `drift` steps, in u per axis: its radius and how far it may move.
+#[tactic(auto, unfolding(dem_model::specs::Near::reach_of))]
+pub fn reach(shapes: &Shapes, drift: u32, sphere: u32) -> u64
+    requires drift { drift ≤ 1024 }
+    requires sphere { sphere < sphere_count shapes.now }
+    ensures value { result ≡ reach_of shapes.now drift sphere }
+    ensures size { result ≤ 2 ^ 38 }
+{
+    shapes.ball_of(sphere).r as u64 + moved(shapes, drift, sphere)
+}
+
+/// How far a sphere may move in `drift` steps, in u per axis.
+#[tactic(auto, unfolding(dem_model::specs::Near::drift_of))]
+fn moved(shapes: &Shapes, drift: u32, sphere: u32) -> u64
+    requires drift { drift ≤ 1024 }
+    requires sphere { sphere < sphere_count shapes.now }
+    ensures value { result ≡ drift_of shapes.now drift sphere }
+    ensures size { result ≤ 2 ^ 37 }
+{
+    drift as u64 * shapes.per_step(sphere)
+}
+
+/// Whether a pair is near: whether it may touch within `drift` steps after these centres. It counts one test.
+pub fn near<L: Ledger>(
+    shapes: &Shapes,
+    centers: &Centers,
+    pair: Pair,
+    drift: u32,
+    tests: &mut Steps<L>,
+) -> bool
+    requires pair { IsPair shapes.now pair }
+    requires centres { AreInside shapes.now centers.now }
+    requires drift { drift ≤ 1024 }
+    ensures value { result ≡ is_near shapes.now drift centers.now pair }
+    ensures counted { tests.new ≡ tests.old + 1 }
+{
+    tests.tick();
+    tested(shapes, centers, pair, drift)
+}
+
+/// Whether a pair is near.
+#[tactic(auto, unfolding(dem_model::specs::Near::near))]
+pub fn tested(shapes: &Shapes, centers: &Centers, pair: Pair, drift: u32) -> bool
+    requires pair { IsPair shapes.now pair }
+    requires centres { AreInside shapes.now centers.now }
+    requires drift { drift ≤ 1024 }
+    ensures { result ≡ is_near shapes.now drift centers.now pair }
+{
+    let first = center(shapes, centers, pair.a);
+    if pair.b < shapes.spheres() {
+        let second = center(shapes, centers, pair.b);
+        let reach = reach(shapes, drift, pair.a) + reach(shapes, drift, pair.b);
+        within(between(first, second), reach)
+    } else {
+        let wall = wall_beside(shapes, pair);
+        let extra = moved(shapes, drift, pair.a);
+        wall_near(&wall, first, shapes.ball_of(pair.a).r, extra)
+    }
+}
+
+/// The first place less the second.
+fn between(first: Vec3, second: Vec3) -> Wide3
+    requires first { Within (widened first) (2 ^ 36) }
+    requires second { Within (widened second) (2 ^ 36) }
+    ensures { result ≡ difference_of (widened first) (widened second) }
+{
+    sub3(widen(first), widen(second))
+}
+
+/// Whether no component of a difference is greater than this reach in size.
+#[tactic(auto, unfolding(dem_model::specs::Near::spheres_near))]
+fn within(d: Wide3, reach: u64) -> bool
+    ensures { result ≡ spheres_near d reach }
+{
+    within_axis(d.x, reach) && within_axis(d.y, reach) && within_axis(d.z, reach)
+}
+
+/// Whether a component is no greater than this reach in size.
+fn within_axis(component: i128, reach: u64) -> bool
+    ensures { result ≡ not (nat_lt reach (unsigned_abs component)) }
+{
+    !((reach as u128) < component.unsigned_abs())
+}

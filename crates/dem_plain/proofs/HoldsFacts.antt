@@ -31,7 +31,7 @@ use Rattle.dem_plain.specs.Run.{meeting_with, AreStored}
 use Rattle.dem_plain.specs.Holds.{Holds, one_apart}
 
 -- the meetings of some pairs and one more
-meetings-push : (s : SceneValue) (bodies : List Body) (centres : List Vec3) (held : List Held) (ps : List Pair) (p : Pair) →
+pub meetings-push : (s : SceneValue) (bodies : List Body) (centres : List Vec3) (held : List Held) (ps : List Pair) (p : Pair) →
     meetings s bodies centres held (ps ++ p ∷ []) ≡ meetings s bodies centres held ps ++ cons_option (meeting s bodies centres p (held_at held p)) []
 unfolding meetings
 meetings-push s bodies centres held ps p = filter_map-append (λ q. meeting s bodies centres q (held_at held q)) ps (p ∷ [])
@@ -84,18 +84,23 @@ load_at : (s : SceneValue) (ms : List Meeting) (c : ℕ) → c < length s.clumps
 unfolding loads_of
 load_at s ms c lt = get_or-map-range_with_len (load_on s ms) 0 (length s.clumps) c c no_load lt (zero-add c)
 
--- where no clump has too many of the pairs, the loads are within the bounds
+-- where no clump has too many of the pairs, the sums over their meetings are within the bounds
+pub sums-within : (s : SceneValue) (bodies : List Body) (centres : List Vec3) (held : List Held) (ps : List Pair) (ws : List Load) →
+    ((c : ℕ) → pair_count s c ps ≤ most_pairs) → ws ≡ loads_of s (meetings s bodies centres held ps) →
+    All (λ (m : Meeting). IsSmall m.push) (meetings s bodies centres held ps) → AreLoads s ws
+sums-within s bodies centres held ps ws few sums small =
+    record {
+      count = ap length sums ∙ length-loads_of s (meetings s bodies centres held ps);
+      each = λ c lt.
+          let here : get_or ws c no_load ≡ load_on s (meetings s bodies centres held ps) c =
+          ap (λ xs. get_or xs c no_load) sums ∙ load_at s (meetings s bodies centres held ps) c lt in
+          subst CanGrow (sym here) (can_grow (load_on s (meetings s bodies centres held ps) c)
+          (load_on-within s c (meetings s bodies centres held ps) small (omega (arith, meetings_count s bodies centres held c ps, few c))));
+    }
+
 loads-within : (s : SceneValue) (bodies : List Body) (centres : List Vec3) (held : List Held) (ps : List Pair) (met : Met) →
     ((c : ℕ) → pair_count s c ps ≤ most_pairs) → Holds s bodies centres held ps met → AreLoads s met.loads.items
-loads-within s bodies centres held ps met few h =
-    record {
-      count = ap length h.sums ∙ length-loads_of s (meetings s bodies centres held ps);
-      each = λ c lt.
-          let here : get_or met.loads.items c no_load ≡ load_on s (meetings s bodies centres held ps) c =
-          ap (λ ws. get_or ws c no_load) h.sums ∙ load_at s (meetings s bodies centres held ps) c lt in
-          subst CanGrow (sym here) (can_grow (load_on s (meetings s bodies centres held ps) c)
-          (load_on-within s c (meetings s bodies centres held ps) h.small (omega (arith, meetings_count s bodies centres held c ps, few c))));
-    }
+loads-within s bodies centres held ps met few h = sums-within s bodies centres held ps met.loads.items few h.sums h.small
 
 -- the loads before some place of all pairs are within the bounds
 pub loads-visited : (s : SceneValue) (bodies : List Body) (centres : List Vec3) (held : List Held) (a b : ℕ) (met : Met) → IsSound s → a < sphere_count s → b ≤ limit_of s →
@@ -145,7 +150,7 @@ unfolding meetings
 Holds-none s bodies centres held met loads kept = record { sums = loads; kept = kept; small = All-nil (λ (m : Meeting). IsSmall m.push) }
 
 -- the loads of no meetings
-loads_none : (s : SceneValue) (n : ℕ) → replicate n no_load ≡ map (load_on s []) (range_with_len 0 n)
+pub loads_none : (s : SceneValue) (n : ℕ) → replicate n no_load ≡ map (load_on s []) (range_with_len 0 n)
 unfolding load_on
 loads_none s zero = refl
 loads_none s (suc n) = ext_get_or no_load (replicate (suc n) no_load) (map (λ c. no_load) (range_with_len 0 (suc n)))

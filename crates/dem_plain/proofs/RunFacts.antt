@@ -134,7 +134,7 @@ advanced_all s step bodies loads k next e h =
     (sym h.front ∙ ap (with_front next) rest ∙ ap Ok (append-nil next), record { count = h.count ∙ e; each = λ j lt. h.each j (omega arith) })
 
 -- what is held of small pushes is within its range
-stored_from : (ms : List Meeting) → All (λ (m : Meeting). IsSmall m.push) ms → AreStored (map held_in ms)
+pub stored_from : (ms : List Meeting) → All (λ (m : Meeting). IsSmall m.push) ms → AreStored (map held_in ms)
 unfolding held_in
 stored_from ms small = All-map (λ (e : Held). Within (widened e.h) (2 ^ 40)) held_in ms (λ k d lt. (small k d lt).h)
 
@@ -223,7 +223,7 @@ held_none es i p le h =
 
 -- ---- what a run keeps
 
-length-centres_of : (s : SceneValue) (bodies : List Body) → length (centres_of s bodies) ≡ sphere_count s
+pub length-centres_of : (s : SceneValue) (bodies : List Body) → length (centres_of s bodies) ≡ sphere_count s
 unfolding centres_of sphere_count
 length-centres_of s bodies = length-map (spheres_of s) (placed bodies)
 

@@ -12,5 +12,6 @@ mod met;
 mod plain_run;
 mod stop;
 
-pub use plain_run::PlainRun;
+pub use met::no_loads;
+pub use plain_run::{PlainRun, first_bodies};
 pub use stop::Stop;

@@ -1,6 +1,7 @@
 //! The meetings of a step: the sums per clump and the new displacements, pair by pair and row by row.
 
-ghost use Rattle.std.specs.Prelude.{◌≡◌, ◌+◌, ◌<◌, ◌≤◌, ◌++◌, [], OnOk, IfOk, List};
+ghost use Rattle.std.specs.Prelude.{◌≡◌, ◌+◌, ◌<◌, ◌≤◌, ◌++◌, [], OnOk, IfOk, List, length, replicate};
+ghost use Rattle.dem_model.specs.Step.{no_load};
 ghost use Rattle.dem_model.specs.Motion.{AreInside, AreSound};
 ghost use Rattle.dem_model.specs.Pairs.{sphere_count, limit_of, pair_of, row_below, pairs_below, all_pairs};
 ghost use Rattle.dem_num.specs.declared.vector.Vec3.{Vec3};
@@ -49,6 +50,16 @@ pub fn all_met(
 fn nothing_met(alloc: Global, shapes: &Shapes) -> Result<Met, OutOfMemory>
     ensures { IfOk result (λ met. (bodies : List Body) (centres : List Vec3) (held : List Held) → Holds shapes.now bodies centres held [] met) }
 {
+    Ok(Met {
+        loads: no_loads(alloc, shapes)?,
+        held: List::new(alloc),
+    })
+}
+
+/// A load of nothing per clump.
+pub fn no_loads(alloc: Global, shapes: &Shapes) -> Result<Vec<Load>, OutOfMemory>
+    ensures { IfOk result (λ loads. loads.items ≡ replicate (length shapes.now.clumps) no_load) }
+{
     let nothing = Wide3 { x: 0, y: 0, z: 0 };
     let mut loads = Vec::new(alloc);
     for _ in 0..shapes.scene().clumps.len() {
@@ -60,10 +71,7 @@ fn nothing_met(alloc: Global, shapes: &Shapes) -> Result<Met, OutOfMemory>
             return Err(OutOfMemory);
         }
     }
-    Ok(Met {
-        loads,
-        held: List::new(alloc),
-    })
+    Ok(loads)
 }
 
 /// Adds the pairs of one sphere with all that is later.

@@ -82,7 +82,7 @@ impl<'s> PlainRun<'s> {
 }
 
 /// The bodies of the clumps at the start.
-fn first_bodies(alloc: Global, scene: &Scene) -> Result<List<Body>, OutOfMemory>
+pub fn first_bodies(alloc: Global, scene: &Scene) -> Result<List<Body>, OutOfMemory>
     ensures { IfOk result (λ bodies. bodies ≡ (first_state scene.now).bodies) }
 {
     let mut bodies = List::new(alloc);

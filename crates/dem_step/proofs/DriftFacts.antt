@@ -316,10 +316,10 @@ drifts-wider s m n a b h le = record {
 }
 
 -- a state of the plain run and the one before it
-record HasBefore (s : SceneValue) (n : ℕ) (late : State) : Type 0 where
-  before : State
-  plain : plain_at s n ≡ Some before
-  step : step_of s before ≡ Ok late
+pub record HasBefore (s : SceneValue) (n : ℕ) (late : State) : Type 0 where
+  pub before : State
+  pub plain : plain_at s n ≡ Some before
+  pub step : step_of s before ≡ Ok late
 
 result_ok-some : {T E : Type 0} (r : Result T E) (x : T) → result_ok r ≡ Some x → r ≡ Ok x
 result_ok-some (Ok y) x h = ap Ok (same_Some y x h)
@@ -334,7 +334,7 @@ state_after-step s n st next h = elim (cases_Bool (nat_lt n s.steps)) [
 ]
 
 -- each state but the first has one before it
-has_before : (s : SceneValue) (n : ℕ) (late : State) → plain_at s (suc n) ≡ Some late → HasBefore s n late
+pub has_before : (s : SceneValue) (n : ℕ) (late : State) → plain_at s (suc n) ≡ Some late → HasBefore s n late
 unfolding plain_at
 has_before s n late h =
     option_and_then_some (state_after s n) (plain_at s n) late h

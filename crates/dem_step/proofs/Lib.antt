@@ -1,1 +1,6 @@
 pub mod DriftFacts
+pub mod RoomFacts
+pub mod ListFacts
+pub mod MetFacts
+pub mod StepFacts
+pub mod KeptFacts

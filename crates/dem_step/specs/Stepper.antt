@@ -1,5 +1,5 @@
 -- A step on a list of pairs, as contracts see it.
-use Rattle.std.specs.Prelude.{ℕ, ◌≡◌, ◌+◌, ◌^◌, ◌<◌, ◌≤◌, Bool, true, List, length, replicate, All, IfSome, Option, Some, None, Result, Ok, Err, unwrap_or, if◌then◌else◌}
+use Rattle.std.specs.Prelude.{ℕ, ◌≡◌, ◌^◌, ◌≤◌, Bool, true, List, length, All, IfSome, Option, Some, None, Result, Ok, Err, unwrap_or, if◌then◌else◌}
 use Rattle.dem_num.specs.declared.vector.Vec3.{Vec3}
 use Rattle.dem_num.specs.Vectors.{widened, Within}
 use Rattle.dem_model.specs.SceneValue.{SceneValue}
@@ -9,7 +9,6 @@ use Rattle.dem_model.specs.Motion.{AreSound}
 use Rattle.dem_model.specs.Near.{near_of}
 use Rattle.dem_model.specs.Pairs.{sphere_count}
 use Rattle.dem_model.specs.Plain.{first_state, plain_at}
-use Rattle.dem_model.specs.Ranges.{IsSmall}
 use Rattle.dem_model.specs.Sound.{IsSound}
 use Rattle.dem_model.specs.Step.{step_of}
 use Rattle.dem_model.specs.declared.law.Load.{Load}
@@ -66,10 +65,10 @@ pub record IsStepper (s : SceneValue) (drift step : ℕ) (listed : Bool) (bodies
 
 -- the room that was made for a step: a centre per sphere, a load and a body per clump, an entry per pair of the list
 pub record HasRoom (s : SceneValue) (centres : List Vec3) (loads : List Load) (next : List Body) (pairs : List Pair) (fresh : List (Option Vec3)) : Type 0 where
-  pub centres : length centres ≡ sphere_count s
-  pub loads : length loads ≡ length s.clumps
-  pub next : length next ≡ length s.clumps
-  pub fresh : length pairs ≤ length fresh
+  pub centre_each : length centres ≡ sphere_count s
+  pub load_each : length loads ≡ length s.clumps
+  pub body_each : length next ≡ length s.clumps
+  pub entry_each : length pairs ≤ length fresh
 
 -- a step on a list: it is the plain step, what is held of the pairs of the list is what the next state holds; or it is the plain step's end, and nothing has changed
 abbrev pub MakesStep : {A : Type 0} → Stepper → Stepper → Result A End → Type 0

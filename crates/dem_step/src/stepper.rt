@@ -46,11 +46,7 @@ impl<'s> Model for Dyn<'s> {
 
 impl<'s> Dyn<'s> {
     /// The run of a scene at its first state, without a list; `drift` is the greatest age of a list, in steps.
-    pub fn new(
-        alloc: Global,
-        shapes: &'s Shapes<'s>,
-        drift: u32,
-    ) -> Result<Dyn<'s>, OutOfMemory>
+    pub fn new(alloc: Global, shapes: &'s Shapes<'s>, drift: u32) -> Result<Dyn<'s>, OutOfMemory>
         requires { drift ≤ 1024 }
         ensures { IfOk result (λ run. run ≡ record { scene = shapes.now; drift = drift; state = first_state shapes.now; from = None; contacts = record { list = record { from = 0; pairs = [] }; entries = [] } }) }
     {
@@ -81,8 +77,8 @@ impl<'s> Dyn<'s> {
         ensures unchanged { OnErr result (self.new ≡ self.old) }
         ensures new_list { IfErr result (λ refused. refused.0 ≡ list) }
     {
-        if make_room(&mut self.fresh, list.len()).is_err() {
-            return Err((list, OutOfMemory));
+        if let Err(fault) = make_room(&mut self.fresh, list.len()) {
+            return Err((list, fault));
         }
         match self.contacts.carry(list) {
             Ok(old) => {
@@ -111,17 +107,21 @@ impl<'s> Dyn<'s> {
             &self.contacts,
             tests,
         );
-        advance_all(
+        match advance_all(
             &mut self.next,
             self.shapes,
             self.bodies.as_slice(),
             self.loads.as_slice(),
             self.step + 1,
-        )?;
-        std::mem::swap(&mut self.bodies, &mut self.next);
-        self.contacts.exchange(&mut self.fresh);
-        self.step += 1;
-        Ok(())
+        ) {
+            Ok(()) => {
+                std::mem::swap(&mut self.bodies, &mut self.next);
+                self.contacts.exchange(&mut self.fresh);
+                self.step += 1;
+                Ok(())
+            }
+            Err(end) => Err(end),
+        }
     }
 
     /// Copies the number of the step and the bodies into a snapshot.

@@ -1,0 +1,40 @@
+use Rattle.std.proofs.Common.{◌≡◌, ◌+◌, ◌≤◌, length, true, sym, ap, ◌∙◌, subst, arith}
+use Rattle.dem_model.specs.Carry.{Agrees}
+use Rattle.dem_hist.specs.Carrying.{HeldByPlace}
+use Rattle.dem_step.specs.Stepper.{Stepper, IsStepper, IsNearList, state_at, held_by}
+use Rattle.dem_step.proofs.StepFacts.{plain-number}
+use Rattle.dem_step.proofs.KeptFacts.{stepper-adopts}
+use Rattle.dem_step.proofs.stepper.Dyn.adopt.Goals as goal
+
+pub invariant_of-self-in-Ok : goal.invariant_of-self-in-Ok
+invariant_of-self-in-Ok c =
+    let near : IsNearList c.self.inside.shapes.now c.self.inside.drift c.args.list = subst (λ (r : Stepper). IsNearList r.scene r.drift c.args.list) (sym c.self.view_is) c.requires.near in
+    let number : (state_at c.self.inside.shapes.now c.self.inside.step).step ≡ c.self.inside.step =
+    plain-number c.self.inside.shapes.now c.self.inside.step (state_at c.self.inside.shapes.now c.self.inside.step) c.self.invariant.0.plain in
+    let past : c.args.list.from ≤ c.self.inside.step = subst (λ n. c.args.list.from ≤ n) (sym (ap (λ (r : Stepper). r.state.step) c.self.view_is) ∙ number) c.requires.past in
+    let young : c.self.inside.step ≤ c.args.list.from + c.self.inside.drift =
+    subst (λ n. n ≤ c.args.list.from + c.self.inside.drift) number (subst (λ (r : Stepper). r.state.step ≤ c.args.list.from + r.drift) (sym c.self.view_is) c.requires.young) in (
+      subst (IsStepper c.self.inside.shapes.now c.self.inside.drift c.self.inside.step true c.self.inside.bodies) (sym c.in-Ok.ensures.carried)
+          (stepper-adopts c.self.inside.shapes.now c.self.inside.drift c.self.inside.step c.self.inside.listed c.self.inside.bodies c.self.inside.contacts.list c.args.list c.self.inside.contacts.entries
+          c.self.invariant.0 near c.len.ensures.ascending past young),
+      record {
+        centre_each = c.self.invariant.1.centre_each;
+        load_each = c.self.invariant.1.load_each;
+        body_each = c.self.invariant.1.body_each;
+        entry_each = omega (arith, ap (λ (h : HeldByPlace). length h.list.pairs) c.in-Ok.ensures.carried, c.len.ensures.value, c.make_room.ensures.room);
+      },
+    )
+
+pub returns-in-Ok-clause-kept : goal.returns-in-Ok-clause-kept
+returns-in-Ok-clause-kept c =
+    let near : IsNearList c.self.inside.shapes.now c.self.inside.drift c.args.list = subst (λ (r : Stepper). IsNearList r.scene r.drift c.args.list) (sym c.self.view_is) c.requires.near in
+    let number : (state_at c.self.inside.shapes.now c.self.inside.step).step ≡ c.self.inside.step =
+    plain-number c.self.inside.shapes.now c.self.inside.step (state_at c.self.inside.shapes.now c.self.inside.step) c.self.invariant.0.plain in
+    let past : c.args.list.from ≤ c.self.inside.step = subst (λ n. c.args.list.from ≤ n) (sym (ap (λ (r : Stepper). r.state.step) c.self.view_is) ∙ number) c.requires.past in
+    let young : c.self.inside.step ≤ c.args.list.from + c.self.inside.drift =
+    subst (λ n. n ≤ c.args.list.from + c.self.inside.drift) number (subst (λ (r : Stepper). r.state.step ≤ c.args.list.from + r.drift) (sym c.self.view_is) c.requires.young) in
+    let kept : Agrees c.self.inside.shapes.now (state_at c.self.inside.shapes.now c.self.inside.step) (held_by c.carry.new.self) =
+    subst (λ (h : HeldByPlace). Agrees c.self.inside.shapes.now (state_at c.self.inside.shapes.now c.self.inside.step) (held_by h)) (sym c.in-Ok.ensures.carried)
+    (stepper-adopts c.self.inside.shapes.now c.self.inside.drift c.self.inside.step c.self.inside.listed c.self.inside.bodies c.self.inside.contacts.list c.args.list c.self.inside.contacts.entries
+    c.self.invariant.0 near c.len.ensures.ascending past young).agrees in
+    subst (λ (r : Stepper). Agrees r.scene r.state (held_by c.carry.new.self)) c.self.view_is kept

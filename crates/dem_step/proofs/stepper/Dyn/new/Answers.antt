@@ -1,0 +1,30 @@
+use Rattle.std.proofs.Common.{length, None, false, sym, ap, ap₂, ◌∙◌, subst, arith}
+use Rattle.std.proofs.lemmas.List.{length-replicate}
+use Rattle.dem_model.specs.SceneValue.{SceneValue}
+use Rattle.dem_model.specs.Plain.{first_state}
+use Rattle.dem_model.specs.Step.{no_load}
+use Rattle.dem_model.specs.declared.state.State.{State}
+use Rattle.dem_hist.specs.Carrying.{HeldByPlace}
+use Rattle.dem_plain.proofs.RunFacts.{plain_first}
+use Rattle.dem_step.specs.Stepper.{Stepper, IsStepper}
+use Rattle.dem_step.proofs.StepFacts.{state_at-is}
+use Rattle.dem_step.proofs.KeptFacts.{stepper-first, first-count}
+use Rattle.dem_step.proofs.stepper.Dyn.new.Goals as goal
+
+pub invariant_of-result : goal.invariant_of-result
+invariant_of-result c = (
+  subst (IsStepper c.args.shapes.now c.args.drift 0 false c.in_ok-first_bodies.field-0) (sym c.new.ensures)
+      (stepper-first c.args.shapes.now c.args.drift c.in_ok-first_bodies.field-0 c.scene-scene.ensures.sound c.requires
+      (c.in_ok-first_bodies.ensures ∙ ap (λ (s : SceneValue). (first_state s).bodies) c.scene-scene.ensures.value)),
+  record {
+    centre_each = c.in_ok-new.ensures;
+    load_each = ap length c.in_ok-no_loads.ensures ∙ length-replicate (length c.args.shapes.now.clumps) no_load;
+    body_each = first-count c.args.shapes.now c.in_ok-first_bodies-2.field-0 (c.in_ok-first_bodies-2.ensures ∙ ap (λ (s : SceneValue). (first_state s).bodies) c.scene-scene.ensures.value);
+    entry_each = omega (arith, ap (λ (h : HeldByPlace). length h.list.pairs) c.new.ensures);
+  },
+)
+
+pub returns : goal.returns
+returns c =
+    let view : State → HeldByPlace → Stepper = λ st contacts. record { scene = c.args.shapes.now; drift = c.args.drift; state = st; from = None; contacts = contacts } in
+    ap₂ view (state_at-is c.args.shapes.now 0 (first_state c.args.shapes.now) (plain_first c.args.shapes.now)) c.new.ensures

@@ -1,0 +1,160 @@
+use Rattle.std.proofs.Common.{◌≡◌, ◌+◌, ◌<◌, ◌≤◌, List, length, take, sym, ap, ◌∙◌, subst, arith, Ok, Err, Option}
+use Rattle.std.specs.Option.{IsSomeAnd}
+use Rattle.std.proofs.lemmas.List.{with_items_is}
+use Rattle.dem_num.specs.declared.vector.Vec3.{Vec3}
+use Rattle.dem_model.specs.Carry.{kept_of}
+use Rattle.dem_model.specs.Centres.{centres_of}
+use Rattle.dem_model.specs.Motion.{AreInside}
+use Rattle.dem_model.specs.Step.{advanced_from, step_of}
+use Rattle.dem_model.specs.declared.law.Load.{Load}
+use Rattle.dem_model.specs.declared.state.Body.{Body}
+use Rattle.dem_model.specs.declared.state.State.{State}
+use Rattle.dem_model.proofs.SoundFacts.{centres_of-inside}
+use Rattle.dem_force.specs.Loads.{AreLoads}
+use Rattle.dem_list.specs.Ascending.{Pairs}
+use Rattle.dem_hist.specs.Carrying.{HeldByPlace}
+use Rattle.dem_plain.proofs.RunFacts.{length-centres_of}
+use Rattle.dem_step.specs.Stepper.{Stepper, IsStepper, state_at, from_of, held_by}
+use Rattle.dem_step.specs.Met.{HaveMet}
+use Rattle.dem_step.proofs.MetFacts.{loads-met-all}
+use Rattle.dem_step.proofs.ListFacts.{kept_of-take}
+use Rattle.dem_step.proofs.StepFacts.{IsUsable, usable, about, step-made, step-ends, plain-number, next_state}
+use Rattle.dem_step.proofs.KeptFacts.{stepper-next, state-next}
+use Rattle.dem_step.proofs.stepper.Dyn.step.Goals as goal
+
+pub meet_all-requires-clause-centres : goal.meet_all-requires-clause-centres
+meet_all-requires-clause-centres g c =
+    subst (AreInside c.self.inside.shapes.now) (sym (c.fill.ensures ∙ ap (centres_of c.self.inside.shapes.now) c.as_slice.ensures))
+    (centres_of-inside c.self.inside.shapes.now c.self.inside.bodies c.self.invariant.0.scene c.self.invariant.0.sound)
+
+pub meet_all-requires-clause-pairs : goal.meet_all-requires-clause-pairs
+meet_all-requires-clause-pairs g c =
+    (usable c.self.inside.shapes.now c.self.inside.drift c.self.inside.step c.self.inside.listed c.self.inside.bodies c.self.inside.contacts c.self.invariant.0
+    (subst (λ (r : Stepper). IsSomeAnd r.from (λ from. r.state.step ≤ from + r.drift)) (sym c.self.view_is) c.requires.listed)).pairs
+
+pub overflow_add-self-inside : goal.overflow_add-self-inside
+overflow_add-self-inside g c =
+    let lt : (state_at c.self.inside.shapes.now c.self.inside.step).step < c.self.inside.shapes.now.steps = subst (λ (r : Stepper). r.state.step < r.scene.steps) (sym c.self.view_is) c.requires.goes_on in
+    omega (arith, lt, plain-number c.self.inside.shapes.now c.self.inside.step (state_at c.self.inside.shapes.now c.self.inside.step) c.self.invariant.0.plain, c.self.invariant.0.scene.steps)
+
+pub overflow_add-self : goal.overflow_add-self
+overflow_add-self g c =
+    let lt : (state_at c.self.inside.shapes.now c.self.inside.step).step < c.self.inside.shapes.now.steps = subst (λ (r : Stepper). r.state.step < r.scene.steps) (sym c.self.view_is) c.requires.goes_on in
+    omega (arith, lt, plain-number c.self.inside.shapes.now c.self.inside.step (state_at c.self.inside.shapes.now c.self.inside.step) c.self.invariant.0.plain, c.self.invariant.0.scene.steps)
+
+pub advance_all-requires-clause-loads : goal.advance_all-requires-clause-loads
+advance_all-requires-clause-loads g c =
+    let size : length c.meet_all.new.loads ≡ c.self.inside.loads.len = omega (arith, c.meet_all.auto.loads, c.as_mut_slice.ensures.len) in
+    let pairs = (usable c.self.inside.shapes.now c.self.inside.drift c.self.inside.step c.self.inside.listed c.self.inside.bodies c.self.inside.contacts c.self.invariant.0
+    (subst (λ (r : Stepper). IsSomeAnd r.from (λ from. r.state.step ≤ from + r.drift)) (sym c.self.view_is) c.requires.listed)).pairs in
+    subst (AreLoads c.self.inside.shapes.now) (sym (c.as_slice-4.ensures.value ∙ with_items_is c.self.inside.loads c.meet_all.new.loads size))
+    (loads-met-all c.self.inside.shapes.now _ c.fill.new.self (held_by c.self.inside.contacts) c.self.inside.contacts.list.pairs c.meet_all.new.loads c.meet_all.new.fresh pairs c.meet_all.ensures.met)
+
+pub invariant_of-self-in-Err : goal.invariant_of-self-in-Err
+invariant_of-self-in-Err g c =
+    let can : IsUsable c.self.inside.shapes.now c.self.inside.drift c.self.inside.step c.self.inside.contacts.list =
+    usable c.self.inside.shapes.now c.self.inside.drift c.self.inside.step c.self.inside.listed c.self.inside.bodies c.self.inside.contacts c.self.invariant.0 (subst (λ (r : Stepper). IsSomeAnd r.from (λ from. r.state.step ≤ from + r.drift)) (sym c.self.view_is) c.requires.listed) in
+    let filled : c.fill.new.self ≡ centres_of c.self.inside.shapes.now c.self.inside.bodies = c.fill.ensures ∙ ap (centres_of c.self.inside.shapes.now) c.as_slice.ensures in
+    let met : HaveMet c.self.inside.shapes.now c.self.inside.bodies c.fill.new.self (held_by c.self.inside.contacts) c.self.inside.contacts.list.pairs c.meet_all.new.loads c.meet_all.new.fresh =
+    subst (λ (bs : List Body). HaveMet c.self.inside.shapes.now bs c.fill.new.self (held_by c.self.inside.contacts) c.self.inside.contacts.list.pairs c.meet_all.new.loads c.meet_all.new.fresh) c.as_slice-2.ensures c.meet_all.ensures.met in
+    let start = about c.self.inside.shapes.now c.self.inside.drift c.self.inside.step c.self.inside.listed c.self.inside.bodies c.self.inside.contacts c.fill.new.self c.meet_all.new.loads c.meet_all.new.fresh c.self.invariant.0 can filled met in
+    let size : length c.meet_all.new.loads ≡ c.self.inside.loads.len = omega (arith, c.meet_all.auto.loads, c.as_mut_slice.ensures.len) in
+    let loads : c.as_slice-4.result.now ≡ c.meet_all.new.loads = c.as_slice-4.ensures.value ∙ with_items_is c.self.inside.loads c.meet_all.new.loads size in
+    let fresh_size : length c.meet_all.new.fresh ≡ c.self.inside.fresh.len = omega (arith, c.meet_all.auto.fresh, c.as_mut_slice-2.ensures.len) in
+    let load_count : length c.meet_all.new.loads ≡ length c.self.inside.shapes.now.clumps = omega (arith, size, ap length c.as_mut_slice.ensures.value, c.meet_all.auto.loads, c.self.invariant.1.load_each) in
+    let fresh_count : length c.self.inside.contacts.list.pairs ≤ length c.meet_all.new.fresh = omega (arith, ap length c.as_mut_slice-2.ensures.value, c.meet_all.auto.fresh, c.self.invariant.1.entry_each) in (
+      c.self.invariant.0,
+      record {
+        centre_each = ap length filled ∙ length-centres_of c.self.inside.shapes.now c.self.inside.bodies;
+        load_each = ap length (with_items_is c.self.inside.loads c.meet_all.new.loads size) ∙ load_count;
+        body_each = c.advance_all.ensures.room;
+        entry_each = subst (λ (es : List (Option Vec3)). length c.self.inside.contacts.list.pairs ≤ length es) (sym (with_items_is c.self.inside.fresh c.meet_all.new.fresh fresh_size)) fresh_count;
+      },
+    )
+
+pub returns-in-Err-clause-step : goal.returns-in-Err-clause-step
+returns-in-Err-clause-step g c =
+    let can : IsUsable c.self.inside.shapes.now c.self.inside.drift c.self.inside.step c.self.inside.contacts.list =
+    usable c.self.inside.shapes.now c.self.inside.drift c.self.inside.step c.self.inside.listed c.self.inside.bodies c.self.inside.contacts c.self.invariant.0 (subst (λ (r : Stepper). IsSomeAnd r.from (λ from. r.state.step ≤ from + r.drift)) (sym c.self.view_is) c.requires.listed) in
+    let filled : c.fill.new.self ≡ centres_of c.self.inside.shapes.now c.self.inside.bodies = c.fill.ensures ∙ ap (centres_of c.self.inside.shapes.now) c.as_slice.ensures in
+    let met : HaveMet c.self.inside.shapes.now c.self.inside.bodies c.fill.new.self (held_by c.self.inside.contacts) c.self.inside.contacts.list.pairs c.meet_all.new.loads c.meet_all.new.fresh =
+    subst (λ (bs : List Body). HaveMet c.self.inside.shapes.now bs c.fill.new.self (held_by c.self.inside.contacts) c.self.inside.contacts.list.pairs c.meet_all.new.loads c.meet_all.new.fresh) c.as_slice-2.ensures c.meet_all.ensures.met in
+    let start = about c.self.inside.shapes.now c.self.inside.drift c.self.inside.step c.self.inside.listed c.self.inside.bodies c.self.inside.contacts c.fill.new.self c.meet_all.new.loads c.meet_all.new.fresh c.self.invariant.0 can filled met in
+    let size : length c.meet_all.new.loads ≡ c.self.inside.loads.len = omega (arith, c.meet_all.auto.loads, c.as_mut_slice.ensures.len) in
+    let loads : c.as_slice-4.result.now ≡ c.meet_all.new.loads = c.as_slice-4.ensures.value ∙ with_items_is c.self.inside.loads c.meet_all.new.loads size in
+    let ended : advanced_from c.self.inside.shapes.now (c.self.inside.step + 1) 0 c.self.inside.shapes.now.clumps c.self.inside.bodies c.meet_all.new.loads ≡ Err c.in-Err.end =
+    subst (λ (ws : List Load). advanced_from c.self.inside.shapes.now (c.self.inside.step + 1) 0 c.self.inside.shapes.now.clumps c.self.inside.bodies ws ≡ Err c.in-Err.end) loads
+    (subst (λ (bs : List Body). advanced_from c.self.inside.shapes.now (c.self.inside.step + 1) 0 c.self.inside.shapes.now.clumps bs c.as_slice-4.result.now ≡ Err c.in-Err.end) c.as_slice-3.ensures c.in-Err.ensures.ended) in (
+      subst (λ (r : Stepper). step_of r.scene r.state ≡ Err c.in-Err.end) c.self.view_is
+          (step-ends c.self.inside.shapes.now c.self.inside.drift c.self.inside.step c.self.inside.bodies c.in-Err.end c.self.inside.contacts c.fill.new.self c.meet_all.new.loads c.meet_all.new.fresh start ended),
+      c.self.view_is,
+    )
+
+pub invariant_of-self : goal.invariant_of-self
+invariant_of-self g c =
+    let can : IsUsable c.self.inside.shapes.now c.self.inside.drift c.self.inside.step c.self.inside.contacts.list =
+    usable c.self.inside.shapes.now c.self.inside.drift c.self.inside.step c.self.inside.listed c.self.inside.bodies c.self.inside.contacts c.self.invariant.0 (subst (λ (r : Stepper). IsSomeAnd r.from (λ from. r.state.step ≤ from + r.drift)) (sym c.self.view_is) c.requires.listed) in
+    let filled : c.fill.new.self ≡ centres_of c.self.inside.shapes.now c.self.inside.bodies = c.fill.ensures ∙ ap (centres_of c.self.inside.shapes.now) c.as_slice.ensures in
+    let met : HaveMet c.self.inside.shapes.now c.self.inside.bodies c.fill.new.self (held_by c.self.inside.contacts) c.self.inside.contacts.list.pairs c.meet_all.new.loads c.meet_all.new.fresh =
+    subst (λ (bs : List Body). HaveMet c.self.inside.shapes.now bs c.fill.new.self (held_by c.self.inside.contacts) c.self.inside.contacts.list.pairs c.meet_all.new.loads c.meet_all.new.fresh) c.as_slice-2.ensures c.meet_all.ensures.met in
+    let start = about c.self.inside.shapes.now c.self.inside.drift c.self.inside.step c.self.inside.listed c.self.inside.bodies c.self.inside.contacts c.fill.new.self c.meet_all.new.loads c.meet_all.new.fresh c.self.invariant.0 can filled met in
+    let size : length c.meet_all.new.loads ≡ c.self.inside.loads.len = omega (arith, c.meet_all.auto.loads, c.as_mut_slice.ensures.len) in
+    let loads : c.as_slice-4.result.now ≡ c.meet_all.new.loads = c.as_slice-4.ensures.value ∙ with_items_is c.self.inside.loads c.meet_all.new.loads size in
+    let fresh_size : length c.meet_all.new.fresh ≡ c.self.inside.fresh.len = omega (arith, c.meet_all.auto.fresh, c.as_mut_slice-2.ensures.len) in
+    let load_count : length c.meet_all.new.loads ≡ length c.self.inside.shapes.now.clumps = omega (arith, size, ap length c.as_mut_slice.ensures.value, c.meet_all.auto.loads, c.self.invariant.1.load_each) in
+    let fresh_count : length c.self.inside.contacts.list.pairs ≤ length c.meet_all.new.fresh = omega (arith, ap length c.as_mut_slice-2.ensures.value, c.meet_all.auto.fresh, c.self.invariant.1.entry_each) in
+    let number : (state_at c.self.inside.shapes.now c.self.inside.step).step ≡ c.self.inside.step = plain-number c.self.inside.shapes.now c.self.inside.step (state_at c.self.inside.shapes.now c.self.inside.step) c.self.invariant.0.plain in
+    let below : c.self.inside.step < c.self.inside.shapes.now.steps = subst (λ n. n < c.self.inside.shapes.now.steps) number (subst (λ (r : Stepper). r.state.step < r.scene.steps) (sym c.self.view_is) c.requires.goes_on) in
+    let advanced : advanced_from c.self.inside.shapes.now (c.self.inside.step + 1) 0 c.self.inside.shapes.now.clumps c.self.inside.bodies c.meet_all.new.loads ≡ Ok c.advance_all.new.next =
+    subst (λ (ws : List Load). advanced_from c.self.inside.shapes.now (c.self.inside.step + 1) 0 c.self.inside.shapes.now.clumps c.self.inside.bodies ws ≡ Ok c.advance_all.new.next) loads
+    (subst (λ (bs : List Body). advanced_from c.self.inside.shapes.now (c.self.inside.step + 1) 0 c.self.inside.shapes.now.clumps bs c.as_slice-4.result.now ≡ Ok c.advance_all.new.next) c.as_slice-3.ensures c.in-Ok.ensures.advanced) in
+    let made : step_of c.self.inside.shapes.now (state_at c.self.inside.shapes.now c.self.inside.step) ≡ Ok (next_state (c.self.inside.step + 1) c.advance_all.new.next (kept_of c.self.inside.contacts.list.pairs c.meet_all.new.fresh)) =
+    step-made c.self.inside.shapes.now c.self.inside.drift c.self.inside.step c.self.inside.bodies c.advance_all.new.next c.self.inside.contacts c.fill.new.self c.meet_all.new.loads c.meet_all.new.fresh start advanced in
+    let items = with_items_is c.self.inside.fresh c.meet_all.new.fresh fresh_size in
+    let taken : c.exchange.new.self ≡ record { list = c.self.inside.contacts.list; entries = take (length c.self.inside.contacts.list.pairs) c.meet_all.new.fresh } =
+    c.exchange.ensures.taken ∙ ap (λ (es : List (Option Vec3)). let h : HeldByPlace = record { list = c.self.inside.contacts.list; entries = take (length c.self.inside.contacts.list.pairs) es } in h) items in (
+      subst (λ (h : HeldByPlace). IsStepper c.self.inside.shapes.now c.self.inside.drift (c.self.inside.step + 1) c.self.inside.listed c.swap.new.x h) (sym taken)
+          (subst (λ (bs : List Body). IsStepper c.self.inside.shapes.now c.self.inside.drift (c.self.inside.step + 1) c.self.inside.listed bs (record { list = c.self.inside.contacts.list; entries = take (length c.self.inside.contacts.list.pairs) c.meet_all.new.fresh })) (sym c.swap.ensures.x_after)
+          (stepper-next c.self.inside.shapes.now c.self.inside.drift c.self.inside.step c.self.inside.listed c.self.inside.bodies c.advance_all.new.next c.self.inside.contacts.list c.self.inside.contacts.entries c.meet_all.new.fresh (held_by c.self.inside.contacts) c.fill.new.self c.meet_all.new.loads
+          c.self.invariant.0 below made c.in-Ok.ensures.sound fresh_count met)),
+      record {
+        centre_each = ap length filled ∙ length-centres_of c.self.inside.shapes.now c.self.inside.bodies;
+        load_each = ap length (with_items_is c.self.inside.loads c.meet_all.new.loads size) ∙ load_count;
+        body_each = ap length c.swap.ensures.y_after ∙ c.self.invariant.0.sound.count;
+        entry_each = omega (arith, ap (λ (h : HeldByPlace). length h.list.pairs) taken, ap length c.exchange.ensures.given, c.self.invariant.0.as_many);
+      },
+    )
+
+pub returns-in-Ok-clause-step : goal.returns-in-Ok-clause-step
+returns-in-Ok-clause-step g c =
+    let can : IsUsable c.self.inside.shapes.now c.self.inside.drift c.self.inside.step c.self.inside.contacts.list =
+    usable c.self.inside.shapes.now c.self.inside.drift c.self.inside.step c.self.inside.listed c.self.inside.bodies c.self.inside.contacts c.self.invariant.0 (subst (λ (r : Stepper). IsSomeAnd r.from (λ from. r.state.step ≤ from + r.drift)) (sym c.self.view_is) c.requires.listed) in
+    let filled : c.fill.new.self ≡ centres_of c.self.inside.shapes.now c.self.inside.bodies = c.fill.ensures ∙ ap (centres_of c.self.inside.shapes.now) c.as_slice.ensures in
+    let met : HaveMet c.self.inside.shapes.now c.self.inside.bodies c.fill.new.self (held_by c.self.inside.contacts) c.self.inside.contacts.list.pairs c.meet_all.new.loads c.meet_all.new.fresh =
+    subst (λ (bs : List Body). HaveMet c.self.inside.shapes.now bs c.fill.new.self (held_by c.self.inside.contacts) c.self.inside.contacts.list.pairs c.meet_all.new.loads c.meet_all.new.fresh) c.as_slice-2.ensures c.meet_all.ensures.met in
+    let start = about c.self.inside.shapes.now c.self.inside.drift c.self.inside.step c.self.inside.listed c.self.inside.bodies c.self.inside.contacts c.fill.new.self c.meet_all.new.loads c.meet_all.new.fresh c.self.invariant.0 can filled met in
+    let size : length c.meet_all.new.loads ≡ c.self.inside.loads.len = omega (arith, c.meet_all.auto.loads, c.as_mut_slice.ensures.len) in
+    let loads : c.as_slice-4.result.now ≡ c.meet_all.new.loads = c.as_slice-4.ensures.value ∙ with_items_is c.self.inside.loads c.meet_all.new.loads size in
+    let fresh_size : length c.meet_all.new.fresh ≡ c.self.inside.fresh.len = omega (arith, c.meet_all.auto.fresh, c.as_mut_slice-2.ensures.len) in
+    let load_count : length c.meet_all.new.loads ≡ length c.self.inside.shapes.now.clumps = omega (arith, size, ap length c.as_mut_slice.ensures.value, c.meet_all.auto.loads, c.self.invariant.1.load_each) in
+    let fresh_count : length c.self.inside.contacts.list.pairs ≤ length c.meet_all.new.fresh = omega (arith, ap length c.as_mut_slice-2.ensures.value, c.meet_all.auto.fresh, c.self.invariant.1.entry_each) in
+    let number : (state_at c.self.inside.shapes.now c.self.inside.step).step ≡ c.self.inside.step = plain-number c.self.inside.shapes.now c.self.inside.step (state_at c.self.inside.shapes.now c.self.inside.step) c.self.invariant.0.plain in
+    let below : c.self.inside.step < c.self.inside.shapes.now.steps = subst (λ n. n < c.self.inside.shapes.now.steps) number (subst (λ (r : Stepper). r.state.step < r.scene.steps) (sym c.self.view_is) c.requires.goes_on) in
+    let advanced : advanced_from c.self.inside.shapes.now (c.self.inside.step + 1) 0 c.self.inside.shapes.now.clumps c.self.inside.bodies c.meet_all.new.loads ≡ Ok c.advance_all.new.next =
+    subst (λ (ws : List Load). advanced_from c.self.inside.shapes.now (c.self.inside.step + 1) 0 c.self.inside.shapes.now.clumps c.self.inside.bodies ws ≡ Ok c.advance_all.new.next) loads
+    (subst (λ (bs : List Body). advanced_from c.self.inside.shapes.now (c.self.inside.step + 1) 0 c.self.inside.shapes.now.clumps bs c.as_slice-4.result.now ≡ Ok c.advance_all.new.next) c.as_slice-3.ensures c.in-Ok.ensures.advanced) in
+    let made : step_of c.self.inside.shapes.now (state_at c.self.inside.shapes.now c.self.inside.step) ≡ Ok (next_state (c.self.inside.step + 1) c.advance_all.new.next (kept_of c.self.inside.contacts.list.pairs c.meet_all.new.fresh)) =
+    step-made c.self.inside.shapes.now c.self.inside.drift c.self.inside.step c.self.inside.bodies c.advance_all.new.next c.self.inside.contacts c.fill.new.self c.meet_all.new.loads c.meet_all.new.fresh start advanced in
+    let items = with_items_is c.self.inside.fresh c.meet_all.new.fresh fresh_size in
+    let taken : c.exchange.new.self ≡ record { list = c.self.inside.contacts.list; entries = take (length c.self.inside.contacts.list.pairs) c.meet_all.new.fresh } =
+    c.exchange.ensures.taken ∙ ap (λ (es : List (Option Vec3)). let h : HeldByPlace = record { list = c.self.inside.contacts.list; entries = take (length c.self.inside.contacts.list.pairs) es } in h) items in
+    let next : state_at c.self.inside.shapes.now (c.self.inside.step + 1) ≡ next_state (c.self.inside.step + 1) c.advance_all.new.next (kept_of c.self.inside.contacts.list.pairs c.meet_all.new.fresh) =
+    state-next c.self.inside.shapes.now c.self.inside.step c.advance_all.new.next (kept_of c.self.inside.contacts.list.pairs c.meet_all.new.fresh) c.self.invariant.0.plain below made in
+    let list : c.exchange.new.self.list ≡ c.self.inside.contacts.list = ap (λ (h : HeldByPlace). h.list) taken in (
+      subst (λ (r : Stepper). step_of r.scene r.state ≡ Ok (state_at c.self.inside.shapes.now (c.self.inside.step + 1))) c.self.view_is (made ∙ ap Ok (sym next)),
+      ap held_by taken ∙ kept_of-take c.self.inside.contacts.list.pairs c.meet_all.new.fresh ∙ ap (λ (x : State). x.held) (sym next),
+      list ∙ ap (λ (r : Stepper). r.contacts.list) c.self.view_is,
+      ap (λ (r : Stepper). r.scene) c.self.view_is,
+      ap (λ (r : Stepper). r.drift) c.self.view_is,
+      ap (λ (l : Pairs). from_of c.self.inside.listed l.from) list ∙ ap (λ (r : Stepper). r.from) c.self.view_is,
+    )

@@ -65,7 +65,7 @@ fn refined(scaled: u64, reciprocal: u64) -> u64 {
 }
 
 /// The higher half of a product.
-fn high(a: u64, b: u64) -> u64
+pub(crate) fn high(a: u64, b: u64) -> u64
     ensures { result ≡ a * b / 2 ^ 64 }
 {
     ((a as u128 * b as u128) >> 64) as u64

@@ -6,6 +6,7 @@
 #![tactic(auto)]
 
 mod axes;
+mod dividing;
 mod guess;
 mod operators;
 mod products;
@@ -17,9 +18,10 @@ mod vector;
 mod whole_root;
 
 pub use axes::{add3, cl3, narrow3, negated3, scale3, sh3, sub3, tdiv3, widen};
+pub use dividing::reciprocal;
 pub use operators::{add, mul, narrow, negated, sub};
 pub use products::{cross, dot, norm2, quat_norm2};
 pub use rounded::{cl, sh, tdiv};
-pub use shares::{reciprocal, share};
+pub use shares::share;
 pub use vector::{Quat, Rows, Vec3, Wide3};
 pub use whole_root::root;

@@ -33,6 +33,9 @@ pub fn damping_factor(ratio: u32, stiffness: u32, c: u64, mass: u64) -> u128
     ensures value { result ≡ ratio * root_of (stiffness * c * mass) }
     ensures size { result ≤ 2 ^ 66 }
 {
+    if ratio == 0 {
+        return 0;
+    }
     ratio as u128 * damping_root(stiffness, c, mass) as u128
 }
 

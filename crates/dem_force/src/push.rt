@@ -9,6 +9,7 @@ ghost use Rattle.dem_model.specs.Ranges.{IsBounded};
 use crate::motion::{depth, vector_along};
 use dem_model::Side;
 use dem_num::{Vec3, Wide3, add3, cross, mul, negated3, sh, sub3};
+use dem_turn::is_zero;
 
 /// The force on the first side: the normal force along the normal, and friction.
 #[tactic(auto, unfolding(dem_model::specs::Law::force_of))]
@@ -29,7 +30,11 @@ fn lever_torque(lever: Vec3, force: Wide3) -> Wide3
     ensures value { result ≡ cross_of (widened lever) force }
     ensures size { Within result (2 ^ 92) }
 {
-    cross(lever, force)
+    if is_zero(lever) {
+        Wide3 { x: 0, y: 0, z: 0 }
+    } else {
+        cross(lever, force)
+    }
 }
 
 /// The torque of the opposite force on a clump, at the centre of its sphere.

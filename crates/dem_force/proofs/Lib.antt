@@ -3,6 +3,7 @@ pub mod CentredFacts
 pub mod LimitFacts
 pub mod MixFacts
 pub mod RangeFacts
+pub mod SideFacts
 pub mod SlideFacts
 pub mod SumFacts
 pub mod TouchFacts

@@ -2,14 +2,20 @@
 
 ghost use Rattle.std.specs.Prelude.{◌≡◌, ◌*◌, ◌/◌, ◌^◌, ◌<◌};
 
-use crate::guess::high;
+use crate::guess::{found, high};
 
 /// About 2^127 over a divisor, of which the leading zeros are cut. Nothing rests on it: what is guessed by it is tested.
 pub fn reciprocal(whole: u64) -> u64 {
     let scaled = whole << (whole.leading_zeros() & 63);
-    let rough = (u64::MAX / ((scaled >> 32) + 1)) << 31;
-    let rest = (1u64 << 63).wrapping_sub(high(scaled, rough));
-    rough.wrapping_add(high(rough, rest) << 1)
+    let root = found(scaled);
+    let rough = (root * root) << 33;
+    refined(scaled, refined(scaled, refined(scaled, rough)))
+}
+
+/// One step of Newton. The small number taken away is to keep it below, in spite of the rounding.
+fn refined(scaled: u64, reciprocal: u64) -> u64 {
+    let share = 0u64.wrapping_sub(high(scaled, reciprocal));
+    high(reciprocal, share.wrapping_sub(4)) << 1
 }
 
 /// The quotient of a number of up to 127 bits, where it fits 63 bits.

@@ -28,6 +28,7 @@ ghost use Rattle.dem_model.specs.Ranges.{IsLaw};
 
 use crate::motion::part_across;
 use crate::normal::{damping, damping_factor};
+use crate::short::short3;
 use dem_model::Law;
 use dem_num::{
     Vec3, Wide3, add3, cl, cl3, mul, narrow, narrow3, negated, norm2, root, sh, sub, tdiv, widen,
@@ -81,7 +82,7 @@ fn stretched(stiffness: u64, h: i64) -> i128
     ensures value { result ≡ shifted (pos stiffness *ℤ h) 32 }
     ensures size { AtMost result (2 ^ 63) }
 {
-    sh(mul(stiffness as i128, h as i128), 32)
+    sh(mul(stiffness as i64 as i128, h as i128), 32)
 }
 
 /// The tangential force before friction bounds it: elastic and damped.
@@ -192,7 +193,7 @@ fn sticks(force: Wide3, bound: u128) -> bool
         return true;
     }
     let next = bound + 1;
-    norm2(force) < next * next
+    norm2(short3(force)) < next * next
 }
 
 /// What friction leaves of a trial force and of the displacement that made it.

@@ -1,4 +1,4 @@
-use Rattle.std.proofs.Common.{◌≡◌, length, ap, ◌∙◌, arith}
+use Rattle.std.proofs.Common.{length, ap, ◌∙◌, arith}
 use Rattle.dem_force.proofs.SideFacts.{AreMade-more}
 use Rattle.dem_force.proofs.side_list.Sides.fill.Goals as goal
 

@@ -1,5 +1,9 @@
 pub mod AdvanceFacts
+pub mod CentredFacts
 pub mod LimitFacts
+pub mod MixFacts
 pub mod RangeFacts
-pub mod TouchFacts
+pub mod SideFacts
+pub mod SlideFacts
 pub mod SumFacts
+pub mod TouchFacts

@@ -34,7 +34,7 @@ pub not_over-within : (limit m : ℕ) (a : Wide3) → false ≡ is_over limit a 
 not_over-within limit m a h l = within_wider a limit m (is_over-within limit a (sym h)) l
 
 -- where no element passes a test, each fails it
-none_pass : {X : Type 0} (p : X → Bool) (xs : List X) → list_any p xs ≡ false → All (λ x. p x ≡ false) xs
+pub none_pass : {X : Type 0} (p : X → Bool) (xs : List X) → list_any p xs ≡ false → All (λ x. p x ≡ false) xs
 none_pass p xs h = λ i d lt. elim (cases_Bool (p (get_or xs i d))) [
   | inl t ↦ let some = list_any_at p xs i d lt t in cc
   | inr f ↦ f

@@ -1,7 +1,6 @@
 -- How long the line between two centres is, and where spheres and walls stand.
-use Rattle.std.proofs.Common.{◌≡◌, ℕ, ◌+◌, ◌*◌, ◌^◌, ◌<◌, ◌≤◌, arith, ℤ, pos, negsuc, unsigned_abs, true, false, subst, sym, ap, ◌∙◌, List, length, get_or, Some, refl}
-use Rattle.std.specs.Prelude.{All, IsTrue, slice_get, not, ◌&&◌, int_lt, ◌≤ℤ◌}
-use Rattle.std.specs.Option.{option_map_or}
+use Rattle.std.proofs.Common.{◌≡◌, ℕ, ◌*◌, ◌<◌, ◌≤◌, arith, ℤ, pos, negsuc, unsigned_abs, true, false, subst, sym, ap, ◌∙◌, List, length, get_or, Some, refl}
+use Rattle.std.specs.Prelude.{All, IsTrue, slice_get, not, ◌&&◌, int_lt}
 use Rattle.std.proofs.lemmas.Bool.{and_parts, ltb-true}
 use Rattle.std.proofs.lemmas.Int.{ints}
 use Rattle.std.proofs.lemmas.Option.{get_or_from_slice_get, slice_get_within}
@@ -9,14 +8,14 @@ use Rattle.dem_num.specs.declared.vector.Vec3.{Vec3}
 use Rattle.dem_num.specs.Vectors.{widened}
 use Rattle.dem_model.specs.SceneValue.{SceneValue}
 use Rattle.dem_model.specs.Position.{in_voxels, in_box}
-use Rattle.dem_model.specs.Sound.{IsSound, IsForm, IsWall, IsFrom, IsBetween, EachBetween, IsTemplate, IsBodyOf}
+use Rattle.dem_model.specs.Sound.{IsSound, IsForm, IsWall, IsBetween, EachBetween, IsTemplate, IsBodyOf}
 use Rattle.dem_model.specs.Ranges.{IsWallFor}
 use Rattle.dem_model.specs.Motion.{IsSphere, AreSound}
 use Rattle.dem_model.specs.Centres.{body_at}
 use Rattle.dem_model.specs.Pairs.{sphere_at}
 use Rattle.dem_model.specs.Advance.{mass_of}
 use Rattle.dem_model.specs.Step.{clump_at, clump_of_sphere, no_clump}
-use Rattle.dem_model.specs.declared.limits.TheConstants.{MAX_VOXELS, VOXEL, MAX_POINT, MAX_MASS}
+use Rattle.dem_model.specs.declared.limits.TheConstants.{MAX_VOXELS, VOXEL, MAX_POINT}
 use Rattle.dem_model.specs.declared.shape.Ball.{Ball}
 use Rattle.dem_model.specs.declared.shape.Template.{Template}
 use Rattle.dem_model.specs.declared.shape.Form.{Form}
@@ -27,8 +26,8 @@ use Rattle.dem_model.specs.declared.state.Clump.{Clump}
 use Rattle.dem_shape.proofs.PoseFacts.{body_read}
 use Rattle.dem_num.specs.declared.vector.Wide3.{Wide3}
 use Rattle.dem_num.specs.Numbers.{root_of}
-use Rattle.dem_num.specs.Vectors.{norm2_of, Within}
-use Rattle.dem_num.proofs.RootFacts.{le_root, root_le}
+use Rattle.dem_num.specs.Vectors.{norm2_of}
+use Rattle.dem_num.proofs.RootFacts.{le_root}
 
 -- no component is greater than the length
 pub part_x : (d : Wide3) → unsigned_abs d.x ≤ root_of (norm2_of d)

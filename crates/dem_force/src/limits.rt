@@ -3,7 +3,7 @@
 ghost use Rattle.std.specs.Prelude.{◌≡◌, ◌+◌, ◌*◌, ◌^◌, ◌<◌, ◌≤◌, ◌+ℤ◌, false, All, IfOk, length, not, if◌then◌else◌, unsigned_abs};
 ghost use Rattle.dem_num.specs.Numbers.{AtMost};
 ghost use Rattle.std.specs.List.{list_any};
-ghost use Rattle.dem_num.specs.Vectors.{widened, narrowed, difference_of, sum_of, Within};
+ghost use Rattle.dem_num.specs.Vectors.{widened, narrowed, difference_of, sum_of, is_zero, Within};
 ghost use Rattle.dem_num.specs.Rotations.{
   EntriesWithin,
   IsOrientation,
@@ -21,7 +21,7 @@ ghost use Rattle.dem_force.specs.Placed.{IsInside, IsPlaced};
 use crate::advancing::moved;
 use dem_model::{Ball, Body, EndKind, Scene, VOXEL};
 use dem_num::{Rows, Vec3, Wide3, narrow3, sub3, widen};
-use dem_turn::{arm, matrix, swing_limit, turned};
+use dem_turn::{arm, is_zero, matrix, swing_limit, turned};
 
 /// Whether some component is greater in size than the limit; a component at the limit is not.
 #[tactic(auto, unfolding(dem_model::specs::Advance::is_over))]
@@ -176,8 +176,20 @@ fn swings_between(scene: &Scene, old: &Body, new: &Body, rows: &Rows, balls: &[B
     some_swings(scene, &matrix(old.q), rows, balls)
 }
 
-/// The new body, unless it or a sphere of it leaves the box, or a sphere swings too far.
-fn kept_in(scene: &Scene, balls: &[Ball], old: &Body, new: Body) -> Result<Body, EndKind>
+/// Whether some sphere stands elsewhere than its clump.
+fn some_off_centre(balls: &[Ball]) -> bool
+    ensures { result ≡ list_any (λ x. not (is_zero (widened x.at))) balls.now }
+{
+    for ball in balls {
+        if !is_zero(ball.at) {
+            return true;
+        }
+    }
+    false
+}
+
+/// The new body, unless it or a sphere of it leaves the box, or a sphere swings too far: by the turned offsets.
+fn turned_in(scene: &Scene, balls: &[Ball], old: &Body, new: Body) -> Result<Body, EndKind>
     requires old_orientation { IsOrientation old.now.q }
     requires new_orientation { IsOrientation new.q }
     requires place { Within (widened new.p) (2 ^ 37) }
@@ -194,6 +206,38 @@ fn kept_in(scene: &Scene, balls: &[Ball], old: &Body, new: Body) -> Result<Body,
         return Err(EndKind::Swing);
     }
     Ok(new)
+}
+
+/// The new body, unless it leaves the box: where no sphere stands elsewhere than its clump, none can swing.
+#[tactic(auto, using(crate::proofs::CentredFacts::own_leaves, crate::proofs::CentredFacts::own_swings))]
+fn centred_in(scene: &Scene, balls: &[Ball], old: &Body, new: Body) -> Result<Body, EndKind>
+    requires centred { list_any (λ x. not (is_zero (widened x.at))) balls.now ≡ false }
+    ensures value { result ≡ (if leaves_box scene.now balls.now new then Err EndKind.Domain else (if swings scene.now.spin balls.now old.now new then Err EndKind.Swing else Ok new)) }
+    ensures same { IfOk result (λ b. b ≡ new) }
+    ensures inside { IfOk result (IsInside scene.now balls.now) }
+{
+    if in_box(scene, new.p) {
+        Ok(new)
+    } else {
+        Err(EndKind::Domain)
+    }
+}
+
+/// The new body, unless it or a sphere of it leaves the box, or a sphere swings too far.
+fn kept_in(scene: &Scene, balls: &[Ball], old: &Body, new: Body) -> Result<Body, EndKind>
+    requires old_orientation { IsOrientation old.now.q }
+    requires new_orientation { IsOrientation new.q }
+    requires place { Within (widened new.p) (2 ^ 37) }
+    requires offsets { All (IsBall (length scene.now.materials)) balls.now }
+    ensures value { result ≡ (if leaves_box scene.now balls.now new then Err EndKind.Domain else (if swings scene.now.spin balls.now old.now new then Err EndKind.Swing else Ok new)) }
+    ensures same { IfOk result (λ b. b ≡ new) }
+    ensures inside { IfOk result (IsInside scene.now balls.now) }
+{
+    if some_off_centre(balls) {
+        turned_in(scene, balls, old, new)
+    } else {
+        centred_in(scene, balls, old, new)
+    }
 }
 
 /// The body after a step with this new velocity and new spin, or the first limit that it passes.

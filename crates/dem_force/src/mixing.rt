@@ -8,6 +8,9 @@ ghost use Rattle.dem_model.specs.Ranges.{IsLaw, IsFirst, IsSecond, wall_side_of}
 use dem_model::{Law, Material, Side};
 use dem_num::Vec3;
 
+/// Numbers below this one have a product of 64 bits.
+const SHORT: u64 = 1 << 32;
+
 /// The law between two materials, each within the ranges of a scene.
 #[tactic(auto, unfolding(dem_model::specs::Mixing::mixed_of))]
 pub fn mix(a: &Material, b: &Material) -> Law
@@ -26,17 +29,18 @@ pub fn mix(a: &Material, b: &Material) -> Law
 }
 
 /// The product over the sum, as two springs in a row; 0 where both are 0.
-#[tactic(auto, unfolding(dem_model::specs::Mixing::in_a_row))]
+#[tactic(auto, unfolding(dem_model::specs::Mixing::in_a_row), using(crate::proofs::MixFacts::equals_in_a_row))]
 fn in_a_row(a: u64, b: u64) -> u64
     ensures value { result ≡ in_a_row a b }
     ensures size { result ≤ a }
 {
-    let sum = a as u128 + b as u128;
-    if sum == 0 {
-        0
-    } else {
-        (a as u128 * b as u128 / sum) as u64
+    if a == b {
+        return a / 2;
     }
+    if a < SHORT && b < SHORT {
+        return a * b / (a + b);
+    }
+    (a as u128 * b as u128 / (a as u128 + b as u128)) as u64
 }
 
 /// The effective radius of a contact: that of the sphere alone at a wall.

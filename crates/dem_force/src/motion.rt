@@ -16,6 +16,7 @@ ghost use Rattle.dem_model.specs.Law.{
 };
 ghost use Rattle.dem_model.specs.Ranges.{IsBounded};
 
+use crate::short::{short, short3};
 use dem_model::Side;
 use dem_num::{Vec3, Wide3, add3, cross, dot, mul, root, sh, sh3, sub3, widen};
 
@@ -41,17 +42,17 @@ pub fn depth(r: u32, delta: u64) -> u64
 
 /// A component of a vector along the normal.
 pub fn component_along(length: i128, n: i64) -> i128
-    requires length_small { AtMost length (2 ^ 64) }
+    requires length_small { AtMost length (2 ^ 62) }
     requires normal { AtMost n (2 ^ 30) }
     ensures value { result ≡ shifted (length *ℤ n) 30 }
     ensures size { AtMost result (unsigned_abs length) }
 {
-    sh(mul(length, n as i128), 30)
+    sh(mul(short(length), n as i128), 30)
 }
 
 /// A vector along the normal, of the given length.
 pub fn vector_along(length: i128, n: Vec3) -> Wide3
-    requires length_small { AtMost length (2 ^ 64) }
+    requires length_small { AtMost length (2 ^ 62) }
     requires normal { Within (widened n) (2 ^ 30) }
     ensures value { result ≡ along length n }
     ensures size { Within result (unsigned_abs length) }
@@ -92,7 +93,7 @@ pub fn swept(spin: Vec3, lever: Wide3) -> Wide3
     ensures value { result ≡ shifted_each (cross_of (widened spin) lever) 14 }
     ensures size { Within result (2 ^ 46) }
 {
-    sh3(cross(spin, lever), 14)
+    sh3(cross(spin, short3(lever)), 14)
 }
 
 /// The velocity of a side at the contact, in u per step times 2^16.
@@ -129,7 +130,7 @@ pub fn part_along(n: Vec3, u: Wide3) -> i128
     ensures value { result ≡ along_normal n u }
     ensures size { AtMost result (2 ^ 50) }
 {
-    sh(dot(n, u), 30)
+    sh(dot(n, short3(u)), 30)
 }
 
 /// The vector less its part along the normal.

@@ -6,6 +6,7 @@ ghost use Rattle.dem_num.specs.Numbers.{AtMost, shifted, root_of};
 ghost use Rattle.dem_model.specs.Law.{elastic_force_of, damping_of, normal_force_of};
 ghost use Rattle.dem_model.specs.Ranges.{IsLaw};
 
+use crate::short::short;
 use dem_model::Law;
 use dem_num::{mul, root, sh, sub};
 
@@ -33,6 +34,9 @@ pub fn damping_factor(ratio: u32, stiffness: u32, c: u64, mass: u64) -> u128
     ensures value { result ≡ ratio * root_of (stiffness * c * mass) }
     ensures size { result ≤ 2 ^ 66 }
 {
+    if ratio == 0 {
+        return 0;
+    }
     ratio as u128 * damping_root(stiffness, c, mass) as u128
 }
 
@@ -54,7 +58,21 @@ pub fn damping(factor: u128, speed: i128) -> i128
     ensures value { result ≡ shifted (pos factor *ℤ speed) 32 }
     ensures size { AtMost result (2 ^ 85) }
 {
-    sh(mul(factor as i128, speed), 32)
+    sh(damping_product(factor, speed), 32)
+}
+
+/// The product of a factor and a speed, quickly where the factor fits 63 bits.
+fn damping_product(factor: u128, speed: i128) -> i128
+    requires factor_small { factor ≤ 2 ^ 66 }
+    requires speed_small { AtMost speed (2 ^ 51) }
+    ensures value { result ≡ pos factor *ℤ speed }
+    ensures size { unsigned_abs result ≡ factor * unsigned_abs speed }
+{
+    if factor <= i64::MAX as u128 {
+        mul(factor as i64 as i128, short(speed))
+    } else {
+        mul(factor as i128, speed)
+    }
 }
 
 /// The force along the normal: elastic less damping, from 0 to its greatest.

@@ -7,8 +7,10 @@ ghost use Rattle.dem_model.specs.Law.{force_of, rolling_of, torque_a_of, torque_
 ghost use Rattle.dem_model.specs.Ranges.{IsBounded};
 
 use crate::motion::{depth, vector_along};
+use crate::short::short3;
 use dem_model::Side;
 use dem_num::{Vec3, Wide3, add3, cross, mul, negated3, sh, sub3};
+use dem_turn::is_zero;
 
 /// The force on the first side: the normal force along the normal, and friction.
 #[tactic(auto, unfolding(dem_model::specs::Law::force_of))]
@@ -29,7 +31,11 @@ fn lever_torque(lever: Vec3, force: Wide3) -> Wide3
     ensures value { result ≡ cross_of (widened lever) force }
     ensures size { Within result (2 ^ 92) }
 {
-    cross(lever, force)
+    if is_zero(lever) {
+        Wide3 { x: 0, y: 0, z: 0 }
+    } else {
+        cross(lever, force)
+    }
 }
 
 /// The torque of the opposite force on a clump, at the centre of its sphere.
@@ -76,7 +82,7 @@ fn turned_friction(n: Vec3, friction: Wide3) -> Wide3
     ensures value { result ≡ cross_of (widened n) friction }
     ensures size { Within result (2 ^ 93) }
 {
-    cross(n, friction)
+    cross(n, short3(friction))
 }
 
 /// The torque on the first clump about its position.

@@ -98,7 +98,7 @@ fn second_material(shapes: &Shapes, pair: Pair) -> Material
 
 /// The side of a sphere, where the bodies are these.
 #[tactic(auto, unfolding(dem_model::specs::Step::side_of))]
-fn sphere_side(shapes: &Shapes, bodies: &[Body], sphere: u32) -> Side
+pub fn sphere_side(shapes: &Shapes, bodies: &[Body], sphere: u32) -> Side
     requires sphere { sphere < sphere_count shapes.now }
     requires sound { AreSound shapes.now bodies.now }
     ensures value { result ≡ side_of shapes.now bodies.now sphere }

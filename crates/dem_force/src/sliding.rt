@@ -28,6 +28,7 @@ ghost use Rattle.dem_model.specs.Ranges.{IsLaw};
 
 use crate::motion::part_across;
 use crate::normal::{damping, damping_factor};
+use crate::short::short3;
 use dem_model::Law;
 use dem_num::{
     Vec3, Wide3, add3, cl, cl3, mul, narrow, narrow3, negated, norm2, root, sh, sub, tdiv, widen,
@@ -37,6 +38,9 @@ use dem_num::{
 pub const MAX_HELD: i128 = 1_099_511_627_776;
 /// The greatest component of the force across the normal.
 pub const MAX_TRIAL: i128 = 4_611_686_018_427_387_904;
+
+/// More than the length of any force across the normal.
+pub const MAX_LENGTH: u128 = 9_223_372_036_854_775_808;
 
 /// What friction leaves: the force across the normal, and the displacement that is kept.
 #[derive(Clone, Copy, PartialEq, Debug)]
@@ -78,7 +82,7 @@ fn stretched(stiffness: u64, h: i64) -> i128
     ensures value { result ≡ shifted (pos stiffness *ℤ h) 32 }
     ensures size { AtMost result (2 ^ 63) }
 {
-    sh(mul(stiffness as i128, h as i128), 32)
+    sh(mul(stiffness as i64 as i128, h as i128), 32)
 }
 
 /// The tangential force before friction bounds it: elastic and damped.
@@ -179,6 +183,19 @@ fn force_size(force: Wide3) -> u64
     root(norm2(force))
 }
 
+/// Whether a force is no longer than a bound, which the square of its length tells.
+#[tactic(auto, using(crate::proofs::SlideFacts::root_within, crate::proofs::SlideFacts::root_in_all, dem_num::proofs::VectorSizes::norm2_le))]
+fn sticks(force: Wide3, bound: u128) -> bool
+    requires force_small { Within force (2 ^ 62) }
+    ensures { result ≡ nat_le (root_of (norm2_of force)) bound }
+{
+    if bound >= MAX_LENGTH {
+        return true;
+    }
+    let next = bound + 1;
+    norm2(short3(force)) < next * next
+}
+
 /// What friction leaves of a trial force and of the displacement that made it.
 #[tactic(auto, unfolding(dem_model::specs::Law::friction_of, dem_model::specs::Law::held_after))]
 pub fn gripped(kt: u32, bound: u128, trial: Wide3, h: Vec3) -> Grip
@@ -189,6 +206,12 @@ pub fn gripped(kt: u32, bound: u128, trial: Wide3, h: Vec3) -> Grip
     ensures friction_size { Within result.friction (2 ^ 62) }
     ensures held_size { Within (widened result.h) (2 ^ 40) }
 {
+    if sticks(trial, bound) {
+        return Grip {
+            friction: trial,
+            h: held_where(kt, h),
+        };
+    }
     let size = force_size(trial);
     let friction = bounded_force(trial, bound, size);
     let kept = bounded_displacement(h, bound, size);

@@ -1,7 +1,7 @@
 //! How two spheres touch: along the line of their centres, as deep as their radii reach over it.
 
 ghost use Rattle.std.specs.Prelude.{◌≡◌, pos, ◌*◌, ◌^◌, ◌<◌, ◌≤◌, ◌-ℤ◌, ◌*ℤ◌, IfSome, unsigned_abs};
-ghost use Rattle.dem_num.specs.Numbers.{AtMost, quotient, root_of};
+ghost use Rattle.dem_num.specs.Numbers.{AtMost, quotient, root_of, square_of};
 ghost use Rattle.dem_num.specs.Vectors.{widened, Within, norm2_of};
 ghost use Rattle.dem_model.specs.Ranges.{IsTouch};
 ghost use Rattle.dem_model.specs.Sound.{IsBetween};
@@ -9,7 +9,7 @@ ghost use Rattle.dem_model.specs.Touch.{normal_of, spheres_touch};
 ghost use Rattle.dem_model.specs.declared.limits.TheConstants.{UNIT, MAX_OVERLAP};
 
 use dem_model::{Touch, UNIT};
-use dem_num::{Vec3, Wide3, mul, narrow, norm2, root, tdiv};
+use dem_num::{Vec3, Wide3, narrow, reciprocal, root, share};
 
 /// How two spheres touch, from the centre of the first less that of the second and their radii together, in u.
 #[tactic(auto, unfolding(dem_model::specs::Touch::spheres_touch))]
@@ -19,7 +19,7 @@ pub fn touch_spheres(d: Wide3, radii: u64) -> Option<Touch>
     ensures value { result ≡ spheres_touch d radii }
     ensures ranges { IfSome result IsTouch }
 {
-    let distance2 = norm2(d);
+    let distance2 = distance2(d);
     if distance2 < radii as u128 * radii as u128 {
         let distance = root(distance2);
         Some(Touch {
@@ -71,31 +71,40 @@ fn direction(d: Wide3, distance: u64) -> Vec3
     ensures z { result.z ≡ quotient (pos UNIT *ℤ d.z) (pos distance) }
     ensures size { Within (widened result) (2 ^ 30) }
 {
+    let near = reciprocal(distance);
     Vec3 {
-        x: part(d.x, distance),
-        y: part(d.y, distance),
-        z: part(d.z, distance),
+        x: part(d.x, distance, near),
+        y: part(d.y, distance, near),
+        z: part(d.z, distance, near),
     }
 }
 
-/// A component over the length, times 2^30.
-fn part(e: i128, distance: u64) -> i64
+/// A component over the length, times 2^30; the reciprocal of the length is near this one.
+fn part(e: i128, distance: u64, near: u64) -> i64
     requires some { 0 < distance }
     requires part { unsigned_abs e ≤ distance }
     requires near { distance ≤ 2 ^ 38 }
     ensures value { result ≡ quotient (pos UNIT *ℤ e) (pos distance) }
     ensures size { AtMost result (2 ^ 30) }
 {
-    narrow(wide_part(e, distance))
+    share(e, distance, near)
 }
 
-/// A component over the length, times 2^30, at 128 bits.
-fn wide_part(e: i128, distance: u64) -> i128
-    requires some { 0 < distance }
-    requires part { unsigned_abs e ≤ distance }
-    requires near { distance ≤ 2 ^ 38 }
-    ensures value { result ≡ quotient (pos UNIT *ℤ e) (pos distance) }
-    ensures size { AtMost result (2 ^ 30) }
+/// The square of the distance between two centres.
+#[tactic(auto, unfolding(dem_num::specs::Vectors::norm2_of))]
+fn distance2(d: Wide3) -> u128
+    requires near { Within d (2 ^ 37) }
+    ensures { result ≡ norm2_of d }
 {
-    tdiv(mul(UNIT as i128, e), distance as i128)
+    squared(d.x) + squared(d.y) + squared(d.z)
+}
+
+/// The square of a number of 64 bits.
+fn squared(e: i128) -> u128
+    requires { AtMost e (2 ^ 37) }
+    ensures value { result ≡ square_of e }
+    ensures size { result ≤ 2 ^ 74 }
+{
+    let size = narrow(e).unsigned_abs() as u128;
+    size * size
 }

@@ -1,5 +1,6 @@
 pub mod ProductBounds
 pub mod QuatSizes
+pub mod QuotientFacts
 pub mod RootFacts
 pub mod Sizes
 pub mod VectorSizes

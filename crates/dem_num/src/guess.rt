@@ -24,6 +24,9 @@ static RECIPROCALS: [u16; 256] = [
     33393, 33326, 33259, 33192, 33126, 33060, 32994, 32929, 32864, 32800,
 ];
 
+/// Where this many leading bits are zero, a root brought closer once has all of its bits.
+const FEW_BITS: u32 = 20;
+
 /// About the root of a number of 64 bits: for most below 2^58 it is the root or one less.
 pub(crate) fn short_guess(x: u64) -> u64 {
     let even = x.leading_zeros() & 62;
@@ -39,7 +42,11 @@ pub(crate) fn long_guess(x: u128) -> u64 {
     let reciprocal = reciprocal(top);
     let rough = high(top, reciprocal) << 1;
     let near = closer(scaled, rough, reciprocal, 36);
-    closer(scaled, near, reciprocal, 8) >> (even / 2)
+    if even < FEW_BITS {
+        closer(scaled, near, reciprocal, 8) >> (even / 2)
+    } else {
+        near >> (even / 2)
+    }
 }
 
 /// A root brought closer by what its square leaves of the number, of which the lowest bits are cut.
@@ -53,8 +60,14 @@ fn closer(scaled: u128, root: u64, reciprocal: u64, cut: u32) -> u64
 
 /// 2^63 over the root of a number from a quarter to one, which is given times 2^64.
 fn reciprocal(scaled: u64) -> u64 {
-    let found = RECIPROCALS[(scaled >> 56) as usize] as u64;
-    refined(scaled, refined(scaled, found << 48))
+    refined(scaled, refined(scaled, found(scaled) << 48))
+}
+
+/// 2^15 over the root of a number from a quarter to one, which is given times 2^64: what the table has of it.
+pub(crate) fn found(scaled: u64) -> u64
+    ensures { result < 2 ^ 16 }
+{
+    RECIPROCALS[(scaled >> 56) as usize] as u64
 }
 
 /// One step of Newton. The small number taken away is to keep it below, in spite of the rounding.
@@ -65,7 +78,7 @@ fn refined(scaled: u64, reciprocal: u64) -> u64 {
 }
 
 /// The higher half of a product.
-fn high(a: u64, b: u64) -> u64
+pub(crate) fn high(a: u64, b: u64) -> u64
     ensures { result ≡ a * b / 2 ^ 64 }
 {
     ((a as u128 * b as u128) >> 64) as u64

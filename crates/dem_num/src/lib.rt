@@ -6,18 +6,22 @@
 #![tactic(auto)]
 
 mod axes;
+mod dividing;
 mod guess;
 mod operators;
 mod products;
 mod rounded;
+mod shares;
 #[cfg(test)]
 mod tests;
 mod vector;
 mod whole_root;
 
 pub use axes::{add3, cl3, narrow3, negated3, scale3, sh3, sub3, tdiv3, widen};
+pub use dividing::reciprocal;
 pub use operators::{add, mul, narrow, negated, sub};
 pub use products::{cross, dot, norm2, quat_norm2};
 pub use rounded::{cl, sh, tdiv};
+pub use shares::share;
 pub use vector::{Quat, Rows, Vec3, Wide3};
 pub use whole_root::root;

@@ -1,8 +1,9 @@
 //! Quotients rounded toward zero, floors of shifts, and clamps.
 
-ghost use Rattle.std.specs.Prelude.{◌≡◌, pos, ◌+◌, ◌-◌, ◌*◌, ◌/◌, ◌^◌, ◌<◌, ◌≤◌, ◌<ℤ◌, ◌≤ℤ◌, min, unsigned_abs};
+ghost use Rattle.std.specs.Prelude.{◌≡◌, pos, ◌+◌, ◌-◌, ◌*◌, ◌/◌, ◌^◌, ◌<◌, ◌≤◌, ◌<ℤ◌, ◌≤ℤ◌, min, neg_ℤ, if◌then◌else◌, unsigned_abs};
 ghost use Rattle.dem_num.specs.Numbers.{quotient, shifted, clamped};
 
+use crate::dividing::short_quotient;
 use crate::operators::negated;
 
 /// The quotient, rounded toward zero.
@@ -12,7 +13,20 @@ pub fn tdiv(x: i128, y: i128) -> i128
     ensures value { result ≡ quotient x y }
     ensures size { unsigned_abs result ≡ unsigned_abs x / unsigned_abs y }
 {
-    x / y
+    let size = x.unsigned_abs();
+    if y <= u64::MAX as i128 && (size >> 63) < y as u128 {
+        signed(x < 0, short_quotient(size, y as u64))
+    } else {
+        x / y
+    }
+}
+
+/// The number of this size that is below zero or not.
+fn signed(below: bool, size: u64) -> i128
+    requires { size < 2 ^ 63 }
+    ensures { result ≡ (if below then neg_ℤ (pos size) else pos size) }
+{
+    if below { -(size as i128) } else { size as i128 }
 }
 
 /// The floor of `x / 2^k`.

@@ -5,8 +5,9 @@ use Rattle.std.proofs.lemmas.Bool.{and_parts, ltb-true}
 use Rattle.std.proofs.lemmas.List.{get_or_default}
 use Rattle.dem_num.specs.declared.vector.Vec3.{Vec3}
 use Rattle.dem_num.specs.declared.vector.Wide3.{Wide3}
-use Rattle.dem_num.specs.Vectors.{widened, narrowed, sum_of, Within}
+use Rattle.dem_num.specs.Vectors.{widened, narrowed, sum_of, is_zero, Within}
 use Rattle.dem_num.specs.Rotations.{IsOrientation, matrix_of, turned_by, EntriesWithin}
+use Rattle.dem_turn.proofs.StillFacts.{sum_turned_zero}
 use Rattle.dem_model.specs.SceneValue.{SceneValue}
 use Rattle.dem_model.specs.Position.{in_voxels, in_box}
 use Rattle.dem_model.specs.Sound.{IsSound}
@@ -81,3 +82,11 @@ pose_places s bodies x pose o h e =
     ap (λ v. narrowed (sum_of (widened pose.p) v)) e
     ∙ ap (λ p. narrowed (sum_of (widened p) (turned_by pose.rows (widened x.ball.at)))) h.place
     ∙ ap (λ r. narrowed (sum_of (widened (body_at bodies x.clump).p) (turned_by r (widened x.ball.at)))) h.rows
+
+-- a sphere without offset stands where its clump's body does
+pub own_places : (bodies : List Body) (x : Sphere) (k : ℕ) (d : Body) → k < length bodies → k ≡ x.clump → is_zero (widened x.ball.at) ≡ true →
+    (get_or bodies k d).p ≡ placed bodies x
+unfolding placed centre_of
+own_places bodies x k d lt e zero =
+    ap (λ (b : Body). b.p) (body_read bodies k d lt ∙ ap (body_at bodies) e)
+    ∙ ap narrowed (sym (sum_turned_zero (widened (body_at bodies x.clump).p) (matrix_of (body_at bodies x.clump).q) (widened x.ball.at) zero))

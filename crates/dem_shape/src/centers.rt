@@ -5,10 +5,11 @@ ghost use Rattle.dem_model.specs.Centres.{centres_of, centre_at};
 ghost use Rattle.dem_model.specs.Motion.{AreSound};
 ghost use Rattle.dem_model.specs.Pairs.{sphere_count};
 
-use crate::pose::Pose;
+use crate::pose::{Pose, own_place};
 use crate::shapes::Shapes;
 use dem_model::{Body, OutOfMemory};
 use dem_num::Vec3;
+use dem_turn::is_zero;
 use std::alloc::Global;
 use std::marker::Model;
 
@@ -50,8 +51,12 @@ impl Centers {
         let _scene = shapes.scene();
         let mut pose = Pose::new(shapes, bodies, 0);
         for s in 0..shapes.spheres() {
-            pose = pose.for_sphere(shapes, bodies, s);
-            self.items[s as usize] = pose.center(shapes, bodies, s);
+            if is_zero(shapes.ball_of(s).at) {
+                self.items[s as usize] = own_place(shapes, bodies, s);
+            } else {
+                pose = pose.for_sphere(shapes, bodies, s);
+                self.items[s as usize] = pose.center(shapes, bodies, s);
+            }
         }
     }
 

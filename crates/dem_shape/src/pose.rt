@@ -1,9 +1,9 @@
 //! A body's place and matrix, made once for all spheres of its clump.
 
-ghost use Rattle.std.specs.Prelude.{◌≡◌, ◌<◌, ◌≤◌, ◌^◌, length};
+ghost use Rattle.std.specs.Prelude.{◌≡◌, ◌<◌, ◌≤◌, ◌^◌, length, true};
 ghost use Rattle.std.specs.Prelude.{◌+ℤ◌};
 ghost use Rattle.dem_num.specs.Numbers.{AtMost};
-ghost use Rattle.dem_num.specs.Vectors.{widened, narrowed, sum_of, Within};
+ghost use Rattle.dem_num.specs.Vectors.{widened, narrowed, sum_of, is_zero, Within};
 ghost use Rattle.dem_model.specs.Centres.{placed};
 ghost use Rattle.dem_model.specs.Motion.{AreSound};
 ghost use Rattle.dem_model.specs.Pairs.{sphere_count, sphere_at};
@@ -62,6 +62,17 @@ impl Pose {
         let ball = shapes.ball_of(s);
         translated(self.p, turned(&self.rows, ball.at))
     }
+}
+
+/// The centre of a sphere that stands where its clump does, however the clump is turned.
+pub fn own_place(shapes: &Shapes, bodies: &[Body], s: u32) -> Vec3
+    requires sound { AreSound shapes.now bodies.now }
+    requires sphere { s < sphere_count shapes.now }
+    requires offset { is_zero (widened (sphere_at shapes.now s).ball.at) ≡ true }
+    ensures { result ≡ placed bodies.now (sphere_at shapes.now s) }
+{
+    let _scene = shapes.scene();
+    bodies[shapes.clump_of(s) as usize].p
 }
 
 /// A place, moved by an offset.

@@ -8,6 +8,7 @@
 mod reach;
 mod rows;
 mod stepping;
+mod still;
 #[cfg(test)]
 mod tests;
 mod turning;
@@ -16,4 +17,5 @@ pub use dem_num::Rows;
 pub use reach::{arm, swing_limit};
 pub use rows::matrix;
 pub use stepping::turn_step;
+pub use still::is_zero;
 pub use turning::{turned, turned_back, turned_spin};

@@ -14,7 +14,7 @@ ghost use Rattle.dem_num.specs.Rotations.{
   matrix_of,
 };
 
-use dem_num::{Quat, Rows, Vec3, add, mul, narrow, quat_norm2, sub, tdiv};
+use dem_num::{Quat, Rows, Vec3, add, mul, quat_norm2, reciprocal, share, sub};
 
 /// The rotation matrix of a quaternion.
 #[tactic(auto, unfolding(dem_num::specs::Rotations::matrix_of))]
@@ -23,69 +23,69 @@ pub fn matrix(q: Quat) -> Rows
     ensures value { result ≡ matrix_of q }
     ensures size { EntriesWithin result (2 ^ 30) }
 {
-    let norm2 = quat_norm2(q);
+    let norm2 = quat_norm2(q) as u64;
+    let near = reciprocal(norm2);
     Rows {
-        x: row_x(q, norm2),
-        y: row_y(q, norm2),
-        z: row_z(q, norm2),
+        x: row_x(q, norm2, near),
+        y: row_y(q, norm2, near),
+        z: row_z(q, norm2, near),
     }
 }
 
 /// The first row of the matrix.
 #[tactic(auto, unfolding(dem_num::specs::Rotations::matrix_of, dem_num::specs::Rotations::quat_norm2_of))]
-fn row_x(q: Quat, norm2: u128) -> Vec3
+fn row_x(q: Quat, norm2: u64, near: u64) -> Vec3
     requires orientation { IsOrientation q }
     requires length { norm2 ≡ quat_norm2_of q }
     ensures value { result ≡ (matrix_of q).x }
     ensures size { Within (widened result) (2 ^ 30) }
 {
     Vec3 {
-        x: entry(axial_form(q.a, q.b, q.c, q.d), norm2),
-        y: entry(mixed_difference_form(q.b, q.c, q.a, q.d), norm2),
-        z: entry(mixed_sum_form(q.b, q.d, q.a, q.c), norm2),
+        x: entry(axial_form(q.a, q.b, q.c, q.d), norm2, near),
+        y: entry(mixed_difference_form(q.b, q.c, q.a, q.d), norm2, near),
+        z: entry(mixed_sum_form(q.b, q.d, q.a, q.c), norm2, near),
     }
 }
 
 /// The second row of the matrix.
 #[tactic(auto, unfolding(dem_num::specs::Rotations::matrix_of, dem_num::specs::Rotations::quat_norm2_of))]
-fn row_y(q: Quat, norm2: u128) -> Vec3
+fn row_y(q: Quat, norm2: u64, near: u64) -> Vec3
     requires orientation { IsOrientation q }
     requires length { norm2 ≡ quat_norm2_of q }
     ensures value { result ≡ (matrix_of q).y }
     ensures size { Within (widened result) (2 ^ 30) }
 {
     Vec3 {
-        x: entry(mixed_sum_form(q.b, q.c, q.a, q.d), norm2),
-        y: entry(axial_form(q.a, q.c, q.b, q.d), norm2),
-        z: entry(mixed_difference_form(q.c, q.d, q.a, q.b), norm2),
+        x: entry(mixed_sum_form(q.b, q.c, q.a, q.d), norm2, near),
+        y: entry(axial_form(q.a, q.c, q.b, q.d), norm2, near),
+        z: entry(mixed_difference_form(q.c, q.d, q.a, q.b), norm2, near),
     }
 }
 
 /// The third row of the matrix.
 #[tactic(auto, unfolding(dem_num::specs::Rotations::matrix_of, dem_num::specs::Rotations::quat_norm2_of))]
-fn row_z(q: Quat, norm2: u128) -> Vec3
+fn row_z(q: Quat, norm2: u64, near: u64) -> Vec3
     requires orientation { IsOrientation q }
     requires length { norm2 ≡ quat_norm2_of q }
     ensures value { result ≡ (matrix_of q).z }
     ensures size { Within (widened result) (2 ^ 30) }
 {
     Vec3 {
-        x: entry(mixed_difference_form(q.b, q.d, q.a, q.c), norm2),
-        y: entry(mixed_sum_form(q.c, q.d, q.a, q.b), norm2),
-        z: entry(axial_form(q.a, q.d, q.b, q.c), norm2),
+        x: entry(mixed_difference_form(q.b, q.d, q.a, q.c), norm2, near),
+        y: entry(mixed_sum_form(q.c, q.d, q.a, q.b), norm2, near),
+        z: entry(axial_form(q.a, q.d, q.b, q.c), norm2, near),
     }
 }
 
-/// An entry of the matrix: that of the quadratic form over the squared length.
+/// An entry of the matrix: that of the quadratic form over the squared length, whose reciprocal is near this one.
 #[tactic(auto, unfolding(dem_num::specs::Rotations::entry_of))]
-fn entry(form: i128, norm2: u128) -> i64
+fn entry(form: i128, norm2: u64, near: u64) -> i64
     requires some { 0 < norm2 }
-    requires fits { norm2 ≤ 2 ^ 62 }
     requires part { AtMost form norm2 }
     ensures value { result ≡ entry_of form norm2 }
     ensures size { AtMost result (2 ^ 30) }
 {
-    narrow(tdiv(mul(form, 1 << 30), norm2 as i128))
+    share(form, norm2, near)
 }
 
 /// The form of an entry on the diagonal.

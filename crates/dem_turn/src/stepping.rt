@@ -16,7 +16,7 @@ ghost use Rattle.dem_num.specs.Rotations.{
   turn_step_of,
 };
 
-use dem_num::{Quat, Vec3, add, mul, narrow, negated, quat_norm2, root, sub, tdiv};
+use dem_num::{Quat, Vec3, add, mul, narrow, negated, quat_norm2, reciprocal, root, sub};
 
 /// The quaternion after one step with a spin in body axes, in radians times 2^30. A spin of zero keeps it.
 #[tactic(auto, unfolding(dem_num::specs::Rotations::turn_step_of))]
@@ -110,11 +110,12 @@ fn unit(t: Quat) -> Quat
     ensures orientation { IsOrientation result }
 {
     let length = length(t);
+    let near = reciprocal(length);
     Quat {
-        a: share(t.a, length),
-        b: share(t.b, length),
-        c: share(t.c, length),
-        d: share(t.d, length),
+        a: share(t.a, length, near),
+        b: share(t.b, length, near),
+        c: share(t.c, length, near),
+        d: share(t.d, length, near),
     }
 }
 
@@ -130,13 +131,13 @@ fn length(t: Quat) -> u64
     root(quat_norm2(t))
 }
 
-/// A component's share of the length, times 2^30.
-fn share(component: i64, length: u64) -> i64
+/// A component's share of the length, times 2^30; the reciprocal of the length is near this one.
+fn share(component: i64, length: u64, near: u64) -> i64
     requires some { 0 < length }
     requires part { AtMost component length }
     ensures value { result ≡ quotient (pos (2 ^ 30) *ℤ component) (pos length) }
     ensures below { unsigned_abs result * length ≤ 2 ^ 30 * unsigned_abs component }
     ensures above { 2 ^ 30 * unsigned_abs component < (unsigned_abs result + 1) * length }
 {
-    narrow(tdiv(mul(1 << 30, component as i128), length as i128))
+    dem_num::share(component as i128, length, near)
 }

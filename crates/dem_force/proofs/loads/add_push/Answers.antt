@@ -2,7 +2,7 @@ use Rattle.std.proofs.Common.{◌≡◌, ◌≢◌, ◌^◌, ◌<◌, get_or, se
 use Rattle.std.proofs.lemmas.List.{get_or-set_other}
 use Rattle.dem_num.specs.Vectors.{Within}
 use Rattle.dem_num.proofs.VectorSizes.{opposed_within}
-use Rattle.dem_model.specs.Pairs.{sphere_count, sphere_at}
+use Rattle.dem_model.specs.Pairs.{sphere_count}
 use Rattle.dem_model.specs.Step.{first_clump, no_load, load_plus}
 use Rattle.dem_force.specs.Loads.{CanGrow}
 use Rattle.dem_force.proofs.SumFacts.{two_clumps, one_load, two_loads}

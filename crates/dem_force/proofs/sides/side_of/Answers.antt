@@ -1,4 +1,4 @@
-use Rattle.std.proofs.Common.{◌≡◌, ◌^◌, refl}
+use Rattle.std.proofs.Common.{◌^◌, refl}
 use Rattle.dem_num.specs.Vectors.{widened}
 use Rattle.dem_num.proofs.VectorSizes.{within_wider}
 use Rattle.dem_force.proofs.sides.side_of.Goals as goal

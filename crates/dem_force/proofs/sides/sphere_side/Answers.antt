@@ -1,4 +1,4 @@
-use Rattle.std.proofs.Common.{◌≡◌, ap, ◌∙◌}
+use Rattle.std.proofs.Common.{ap, ◌∙◌}
 use Rattle.dem_model.specs.Step.{side_from, side_of}
 use Rattle.dem_force.proofs.TouchFacts.{body_of_sphere, body_at_sphere}
 use Rattle.dem_force.proofs.sides.sphere_side.Goals as goal

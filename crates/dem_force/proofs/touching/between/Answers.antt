@@ -1,4 +1,4 @@
-use Rattle.std.proofs.Common.{◌≡◌, ◌^◌, subst, sym, ap, ◌∙◌}
+use Rattle.std.proofs.Common.{◌≡◌, ◌^◌, subst, sym}
 use Rattle.dem_num.specs.Vectors.{widened, Within, difference_of}
 use Rattle.dem_num.proofs.VectorSizes.{difference_within}
 use Rattle.dem_force.proofs.touching.between.Goals as goal

@@ -1,11 +1,7 @@
 use Rattle.std.proofs.Common.{arith, ◌≡◌, ◌+◌, ◌*◌, ◌/◌, ◌%◌, ◌^◌, ◌≤◌, ◌<◌, unsigned_abs}
 use Rattle.std.proofs.lemmas.Int.{to_z-of_z}
 use Rattle.std.proofs.lemmas.Nat.{div-add-mod', mod_below}
-use Rattle.dem_num.proofs.ProductBounds.{part_le}
 use Rattle.dem_turn.proofs.stepping.share.Goals as goal
-
-pub narrow-requires : goal.narrow-requires
-narrow-requires c = let part : unsigned_abs c.args.component * 2 ^ 30 / c.args.length ≤ 2 ^ 30 = part_le (unsigned_abs c.args.component) c.args.length (2 ^ 30) c.requires.some c.requires.part in grind (arith, to_z-of_z)
 
 pub returns-clause-below : goal.returns-clause-below
 returns-clause-below c = let whole : 2 ^ 30 * unsigned_abs c.args.component / c.args.length * c.args.length + 2 ^ 30 * unsigned_abs c.args.component % c.args.length ≡ 2 ^ 30 * unsigned_abs c.args.component = div-add-mod' (2 ^ 30 * unsigned_abs c.args.component) c.args.length in grind (arith, to_z-of_z)

@@ -1,0 +1,15 @@
+use Rattle.std.proofs.Common.{length, ap, ◌∙◌, arith}
+use Rattle.dem_force.proofs.SideFacts.{AreMade-more}
+use Rattle.dem_force.proofs.side_list.Sides.fill.Goals as goal
+
+pub loop-s-init : goal.loop-s-init
+loop-s-init c = record { count = ap length c.self.view_is ∙ c.requires.made; each = λ j below. absurd (omega arith); ranges = λ j below. absurd (omega arith) }
+
+pub loop-s-preserved : goal.loop-s-preserved
+loop-s-preserved c = AreMade-more _ _ _ _ _ (omega arith) c.sphere_side.ensures.value c.sphere_side.ensures.ranges c.loop-s.invariant
+
+pub returns-clause-each : goal.returns-clause-each
+returns-clause-each c = λ i lt. c.loop-s.invariant.each i (omega arith)
+
+pub returns-clause-ranges : goal.returns-clause-ranges
+returns-clause-ranges c = λ i lt. c.loop-s.invariant.ranges i (omega arith)

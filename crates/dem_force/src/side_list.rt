@@ -1,0 +1,96 @@
+//! The sides of all spheres in a state, made once for all contacts of a step.
+
+ghost use Rattle.std.specs.Prelude.{◌≡◌, ◌<◌, ◌≤◌, ◌^◌, length, IfOk, Some, slice_get, slice_index_or, ℕ};
+ghost use Rattle.dem_num.specs.Vectors.{widened, Within};
+ghost use Rattle.dem_model.specs.Motion.{AreSound, IsPair};
+ghost use Rattle.dem_model.specs.Pairs.{sphere_count};
+ghost use Rattle.dem_model.specs.Ranges.{IsFirst, IsTouch, IsSmall, wall_side_of};
+ghost use Rattle.dem_model.specs.Step.{push_of, side_of};
+
+use crate::law::contact;
+use crate::mixing::wall_side;
+use crate::sides::{law_between, sphere_side};
+use dem_model::{Body, OutOfMemory, Pair, Push, Side, Touch};
+use dem_num::Vec3;
+use dem_shape::Shapes;
+use std::alloc::Global;
+use std::marker::Model;
+
+/// A side per sphere, in the order of the spheres' numbers.
+#[derive(Drop)]
+pub struct Sides {
+    items: Vec<Side>,
+}
+
+impl Model for Sides {
+    ghost use Rattle.std.specs.Prelude.{List};
+    ghost use Rattle.dem_model.specs.declared.law.Side.{Side};
+
+    ghost Value = { List Side };
+
+    ghost view = { λ a. a.items.items };
+}
+
+impl Sides {
+    /// Room for the sides of these shapes.
+    pub fn new(alloc: Global, shapes: &Shapes) -> Result<Sides, OutOfMemory>
+        ensures { IfOk result (λ x. length x ≡ sphere_count shapes.now) }
+    {
+        let mut items = Vec::new(alloc);
+        for _ in 0..shapes.spheres() {
+            if items.push(wall_side()).is_err() {
+                return Err(OutOfMemory);
+            }
+        }
+        Ok(Sides { items })
+    }
+
+    /// Sets every side to what the bodies make it.
+    pub fn fill(&mut self, shapes: &Shapes, bodies: &[Body])
+        requires made { length self.old ≡ sphere_count shapes.now }
+        requires sound { AreSound shapes.now bodies.now }
+        ensures count { length self.new ≡ sphere_count shapes.now }
+        ensures each { (i : ℕ) → i < sphere_count shapes.now → slice_index_or self.new i wall_side_of ≡ side_of shapes.now bodies.now i }
+        ensures ranges { (i : ℕ) → i < sphere_count shapes.now → IsFirst (slice_index_or self.new i wall_side_of) }
+    {
+        for s in 0..shapes.spheres() {
+            self.items[s as usize] = sphere_side(shapes, bodies, s);
+        }
+    }
+
+    /// The side of a sphere.
+    fn get(&self, s: u32) -> &Side
+        requires { s < length self.now }
+        ensures { slice_index_or self.now s wall_side_of ≡ result.now }
+    {
+        &self.items[s as usize]
+    }
+}
+
+/// What a touching pair does, where the sides are those of the bodies, with the displacement that is stored for it.
+#[tactic(auto, unfolding(dem_model::specs::Step::push_of, dem_model::specs::Step::second_side_of))]
+pub fn push_from(
+    shapes: &Shapes,
+    _bodies: &[Body],
+    sides: &Sides,
+    pair: Pair,
+    touch: Touch,
+    h: Vec3,
+) -> Push
+    requires pair { IsPair shapes.now pair }
+    requires count { length sides.now ≡ sphere_count shapes.now }
+    requires each { (i : ℕ) → i < sphere_count shapes.now → slice_index_or sides.now i wall_side_of ≡ side_of shapes.now _bodies.now i }
+    requires ranges { (i : ℕ) → i < sphere_count shapes.now → IsFirst (slice_index_or sides.now i wall_side_of) }
+    requires touch { IsTouch touch }
+    requires stored { Within (widened h) (2 ^ 40) }
+    ensures value { result ≡ push_of shapes.now _bodies.now pair touch h }
+    ensures size { IsSmall result }
+{
+    let law = law_between(shapes, pair);
+    let first = sides.get(pair.a);
+    if pair.b < shapes.spheres() {
+        contact(&law, first, sides.get(pair.b), touch, h)
+    } else {
+        contact(&law, first, &wall_side(), touch, h)
+    }
+}

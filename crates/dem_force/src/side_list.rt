@@ -1,11 +1,12 @@
 //! The sides of all spheres in a state, made once for all contacts of a step.
 
-ghost use Rattle.std.specs.Prelude.{◌≡◌, ◌<◌, ◌≤◌, ◌^◌, length, IfOk, Some, slice_get, slice_index_or, ℕ};
+ghost use Rattle.std.specs.Prelude.{◌≡◌, ◌<◌, ◌≤◌, ◌^◌, length, IfOk, slice_index_or};
 ghost use Rattle.dem_num.specs.Vectors.{widened, Within};
 ghost use Rattle.dem_model.specs.Motion.{AreSound, IsPair};
 ghost use Rattle.dem_model.specs.Pairs.{sphere_count};
-ghost use Rattle.dem_model.specs.Ranges.{IsFirst, IsTouch, IsSmall, wall_side_of};
-ghost use Rattle.dem_model.specs.Step.{push_of, side_of};
+ghost use Rattle.dem_model.specs.Ranges.{IsTouch, IsSmall, wall_side_of};
+ghost use Rattle.dem_model.specs.Step.{push_of};
+ghost use Rattle.dem_force.specs.Sides.{AreSides};
 
 use crate::law::contact;
 use crate::mixing::wall_side;
@@ -49,9 +50,7 @@ impl Sides {
     pub fn fill(&mut self, shapes: &Shapes, bodies: &[Body])
         requires made { length self.old ≡ sphere_count shapes.now }
         requires sound { AreSound shapes.now bodies.now }
-        ensures count { length self.new ≡ sphere_count shapes.now }
-        ensures each { (i : ℕ) → i < sphere_count shapes.now → slice_index_or self.new i wall_side_of ≡ side_of shapes.now bodies.now i }
-        ensures ranges { (i : ℕ) → i < sphere_count shapes.now → IsFirst (slice_index_or self.new i wall_side_of) }
+        ensures { AreSides shapes.now bodies.now self.new }
     {
         for s in 0..shapes.spheres() {
             self.items[s as usize] = sphere_side(shapes, bodies, s);
@@ -67,25 +66,25 @@ impl Sides {
     }
 }
 
-/// What a touching pair does, where the sides are those of the bodies, with the displacement that is stored for it.
+/// What a touching pair does, from sides that were made from these bodies, with the displacement that is stored for it.
+/// The bodies aren't looked at again: they stand here for what is promised.
 #[tactic(auto, unfolding(dem_model::specs::Step::push_of, dem_model::specs::Step::second_side_of))]
 pub fn push_from(
     shapes: &Shapes,
-    _bodies: &[Body],
+    bodies: &[Body],
     sides: &Sides,
     pair: Pair,
     touch: Touch,
     h: Vec3,
 ) -> Push
     requires pair { IsPair shapes.now pair }
-    requires count { length sides.now ≡ sphere_count shapes.now }
-    requires each { (i : ℕ) → i < sphere_count shapes.now → slice_index_or sides.now i wall_side_of ≡ side_of shapes.now _bodies.now i }
-    requires ranges { (i : ℕ) → i < sphere_count shapes.now → IsFirst (slice_index_or sides.now i wall_side_of) }
+    requires sides { AreSides shapes.now bodies.now sides.now }
     requires touch { IsTouch touch }
     requires stored { Within (widened h) (2 ^ 40) }
-    ensures value { result ≡ push_of shapes.now _bodies.now pair touch h }
+    ensures value { result ≡ push_of shapes.now bodies.now pair touch h }
     ensures size { IsSmall result }
 {
+    let _made_from = bodies;
     let law = law_between(shapes, pair);
     let first = sides.get(pair.a);
     if pair.b < shapes.spheres() {

@@ -8,8 +8,5 @@ loop-s-init c = record { count = ap length c.self.view_is ∙ c.requires.made; e
 pub loop-s-preserved : goal.loop-s-preserved
 loop-s-preserved c = AreMade-more _ _ _ _ _ (omega arith) c.sphere_side.ensures.value c.sphere_side.ensures.ranges c.loop-s.invariant
 
-pub returns-clause-each : goal.returns-clause-each
-returns-clause-each c = λ i lt. c.loop-s.invariant.each i (omega arith)
-
-pub returns-clause-ranges : goal.returns-clause-ranges
-returns-clause-ranges c = λ i lt. c.loop-s.invariant.ranges i (omega arith)
+pub returns : goal.returns
+returns c = record { count = c.loop-s.invariant.count; each = λ i lt. c.loop-s.invariant.each i (omega arith); ranges = λ i lt. c.loop-s.invariant.ranges i (omega arith) }

@@ -19,6 +19,8 @@ use Rattle.dem_model.specs.declared.state.Pair.{Pair}
 use Rattle.dem_model.specs.declared.state.State.{State}
 use Rattle.dem_list.specs.Ascending.{Pairs, IsAscending}
 use Rattle.dem_hist.specs.Carrying.{HeldByPlace}
+use Rattle.dem_step.specs.Places.{HasPlaces}
+use Rattle.dem_step.specs.declared.spheres.Spheres.{Spheres}
 
 -- a run on lists: its scene and drift limit, the plain state where it stands, the step of the list in use, and what is held of its pairs
 pub record Stepper : Type 0 where
@@ -63,9 +65,9 @@ pub record IsStepper (s : SceneValue) (drift step : ℕ) (listed : Bool) (bodies
   pub near : listed ≡ true → IsNearList s drift contacts.list
   pub past : listed ≡ true → contacts.list.from ≤ step
 
--- the room that was made for a step: a centre per sphere, a load and a body per clump, an entry per pair of the list
-pub record HasRoom (s : SceneValue) (centres : List Vec3) (loads : List Load) (next : List Body) (pairs : List Pair) (fresh : List (Option Vec3)) : Type 0 where
-  pub centre_each : length centres ≡ sphere_count s
+-- the room that was made for a step: a centre and a side per sphere, a load and a body per clump, an entry per pair of the list
+pub record HasRoom (s : SceneValue) (spheres : Spheres) (loads : List Load) (next : List Body) (pairs : List Pair) (fresh : List (Option Vec3)) : Type 0 where
+  pub places : HasPlaces s spheres
   pub load_each : length loads ≡ length s.clumps
   pub body_each : length next ≡ length s.clumps
   pub entry_each : length pairs ≤ length fresh

@@ -9,6 +9,7 @@
 
 mod advancing;
 mod meeting;
+mod spheres;
 mod stepper;
 
 pub use stepper::Dyn;

@@ -3,19 +3,21 @@
 ghost use Rattle.std.specs.Prelude.{◌≡◌, ◌+◌, ◌^◌, ◌<◌, ◌≤◌, length, IfSome, replicate};
 ghost use Rattle.std.specs.Option.{option_map, unwrap_or};
 ghost use Rattle.dem_num.specs.Vectors.{widened, narrowed, no_vector, Within};
-ghost use Rattle.dem_model.specs.Motion.{AreInside, AreSound, IsPair};
+ghost use Rattle.dem_model.specs.Motion.{AreInside, IsPair};
 ghost use Rattle.dem_model.specs.Ranges.{IsSmall};
 ghost use Rattle.dem_model.specs.Step.{meeting, no_load};
 ghost use Rattle.dem_force.specs.Loads.{AreLoads};
+ghost use Rattle.dem_force.specs.Sides.{AreSides};
 ghost use Rattle.dem_plain.specs.Run.{meeting_with};
 ghost use Rattle.dem_step.specs.Stepper.{AreWithin, held_by};
 ghost use Rattle.dem_step.specs.Met.{ArePairs, HaveMet, IsSmallMeeting, loads_after, entry_of};
 
-use dem_force::{add_push, push_between, touch};
+use crate::spheres::Spheres;
+use dem_force::{add_push, push_from, touch};
 use dem_hist::Contacts;
 use dem_model::{Body, Load, Pair, Push, Steps};
 use dem_num::{Vec3, Wide3};
-use dem_shape::{Centers, Shapes};
+use dem_shape::Shapes;
 use std::sync::ledger::Ledger;
 
 /// Puts what the pairs of the list come to: into `loads` the sums per clump, into `fresh` a displacement, or None, by place.
@@ -24,18 +26,18 @@ pub fn meet_all<L: Ledger>(
     loads: &mut [Load],
     fresh: &mut [Option<Vec3>],
     shapes: &Shapes,
-    centers: &Centers,
+    spheres: &Spheres,
     bodies: &[Body],
     contacts: &Contacts,
     tests: &mut Steps<L>,
 )
     requires loads { length loads.old ≡ length shapes.now.clumps }
     requires fresh { length contacts.now.list.pairs ≤ length fresh.old }
-    requires centres { AreInside shapes.now centers.now }
-    requires sound { AreSound shapes.now bodies.now }
+    requires centres { AreInside shapes.now spheres.now.centers }
+    requires sides { AreSides shapes.now bodies.now spheres.now.sides }
     requires pairs { ArePairs shapes.now contacts.now.list.pairs }
     requires within { AreWithin contacts.now.entries }
-    ensures met { HaveMet shapes.now bodies.now centers.now (held_by contacts.now) contacts.now.list.pairs loads.new fresh.new }
+    ensures met { HaveMet shapes.now bodies.now spheres.now.centers (held_by contacts.now) contacts.now.list.pairs loads.new fresh.new }
     ensures room { length fresh.new ≡ length fresh.old }
     ensures counted { tests.new ≡ tests.old + length contacts.now.list.pairs }
 {
@@ -43,7 +45,7 @@ pub fn meet_all<L: Ledger>(
     for i in 0..contacts.list().len() {
         let pair = contacts.list().get(i);
         let held = contacts.held(i);
-        fresh[i as usize] = meet(loads, shapes, centers, bodies, pair, held, tests);
+        fresh[i as usize] = meet(loads, shapes, spheres, bodies, pair, held, tests);
     }
 }
 
@@ -62,23 +64,23 @@ fn clear(loads: &mut [Load])
 fn meet<L: Ledger>(
     loads: &mut [Load],
     shapes: &Shapes,
-    centers: &Centers,
+    spheres: &Spheres,
     bodies: &[Body],
     pair: Pair,
     held: Option<Vec3>,
     tests: &mut Steps<L>,
 ) -> Option<Vec3>
     requires pair { IsPair shapes.now pair }
-    requires centres { AreInside shapes.now centers.now }
-    requires sound { AreSound shapes.now bodies.now }
+    requires centres { AreInside shapes.now spheres.now.centers }
+    requires sides { AreSides shapes.now bodies.now spheres.now.sides }
     requires held { IfSome held (λ h. Within (widened h) (2 ^ 40)) }
     requires loads { AreLoads shapes.now loads.old }
-    ensures loads { loads.new ≡ loads_after shapes.now loads.old (meeting shapes.now bodies.now centers.now pair held) }
-    ensures entry { result ≡ entry_of (meeting shapes.now bodies.now centers.now pair held) }
-    ensures small { IsSmallMeeting (meeting shapes.now bodies.now centers.now pair held) }
+    ensures loads { loads.new ≡ loads_after shapes.now loads.old (meeting shapes.now bodies.now spheres.now.centers pair held) }
+    ensures entry { result ≡ entry_of (meeting shapes.now bodies.now spheres.now.centers pair held) }
+    ensures small { IsSmallMeeting (meeting shapes.now bodies.now spheres.now.centers pair held) }
     ensures counted { tests.new ≡ tests.old + 1 }
 {
-    let push = push_of(shapes, centers, bodies, pair, held, tests)?;
+    let push = push_of(shapes, spheres, bodies, pair, held, tests)?;
     add_push(loads, shapes, pair, &push);
     Some(push.h)
 }
@@ -86,22 +88,22 @@ fn meet<L: Ledger>(
 /// What a pair does where it touches, from what is held of it.
 fn push_of<L: Ledger>(
     shapes: &Shapes,
-    centers: &Centers,
+    spheres: &Spheres,
     bodies: &[Body],
     pair: Pair,
     held: Option<Vec3>,
     tests: &mut Steps<L>,
 ) -> Option<Push>
     requires pair { IsPair shapes.now pair }
-    requires centres { AreInside shapes.now centers.now }
-    requires sound { AreSound shapes.now bodies.now }
+    requires centres { AreInside shapes.now spheres.now.centers }
+    requires sides { AreSides shapes.now bodies.now spheres.now.sides }
     requires held { IfSome held (λ h. Within (widened h) (2 ^ 40)) }
-    ensures value { option_map (meeting_with pair) result ≡ meeting shapes.now bodies.now centers.now pair held }
+    ensures value { option_map (meeting_with pair) result ≡ meeting shapes.now bodies.now spheres.now.centers pair held }
     ensures small { IfSome result IsSmall }
     ensures counted { tests.new ≡ tests.old + 1 }
 {
-    match touch(shapes, centers, pair, tests) {
-        Some(touch) => Some(push_between(shapes, bodies, pair, touch, or_none(held))),
+    match touch(shapes, &spheres.centers, pair, tests) {
+        Some(touch) => Some(push_from(shapes, bodies, &spheres.sides, pair, touch, or_none(held))),
         None => None,
     }
 }

@@ -8,12 +8,13 @@ ghost use Rattle.dem_step.specs.Stepper.{IsNearList, MakesStep, held_by};
 
 use crate::advancing::advance_all;
 use crate::meeting::meet_all;
+use crate::spheres::Spheres;
 use dem_hist::Contacts;
 use dem_list::PairList;
 use dem_model::{Body, End, List, Load, OutOfMemory, Steps};
 use dem_num::Vec3;
 use dem_plain::{first_bodies, no_loads};
-use dem_shape::{Centers, Shapes, Snapshot};
+use dem_shape::{Shapes, Snapshot};
 use std::alloc::Global;
 use std::marker::Model;
 use std::sync::ledger::Ledger;
@@ -28,7 +29,7 @@ pub struct Dyn<'s> {
     listed: bool,
     bodies: List<Body>,
     contacts: Contacts,
-    centers: Centers,
+    spheres: Spheres,
     loads: Vec<Load>,
     next: List<Body>,
     fresh: Vec<Option<Vec3>>,
@@ -41,7 +42,7 @@ impl<'s> Model for Dyn<'s> {
 
     ghost view = { λ a. record { scene = a.shapes.now; drift = a.drift; state = state_at a.shapes.now a.step; from = from_of a.listed a.contacts.list.from; contacts = a.contacts } };
 
-    ghost invariant = { λ a. IsStepper a.shapes.now a.drift a.step a.listed a.bodies a.contacts × HasRoom a.shapes.now a.centers a.loads.items a.next a.contacts.list.pairs a.fresh.items };
+    ghost invariant = { λ a. IsStepper a.shapes.now a.drift a.step a.listed a.bodies a.contacts × HasRoom a.shapes.now a.spheres a.loads.items a.next a.contacts.list.pairs a.fresh.items };
 }
 
 impl<'s> Dyn<'s> {
@@ -58,7 +59,7 @@ impl<'s> Dyn<'s> {
             listed: false,
             bodies: first_bodies(alloc, scene)?,
             contacts: Contacts::new(alloc),
-            centers: Centers::new(alloc, shapes)?,
+            spheres: Spheres::new(alloc, shapes)?,
             loads: no_loads(alloc, shapes)?,
             next: first_bodies(alloc, scene)?,
             fresh: Vec::new(alloc),
@@ -97,12 +98,12 @@ impl<'s> Dyn<'s> {
         ensures step { MakesStep self.old self.new result }
         ensures counted { tests.new ≡ tests.old + length self.old.contacts.list.pairs }
     {
-        self.centers.fill(self.shapes, self.bodies.as_slice());
+        self.spheres.fill(self.shapes, self.bodies.as_slice());
         meet_all(
             self.loads.as_mut_slice(),
             self.fresh.as_mut_slice(),
             self.shapes,
-            &self.centers,
+            &self.spheres,
             self.bodies.as_slice(),
             &self.contacts,
             tests,

@@ -14,7 +14,7 @@ use Rattle.dem_step.proofs.meeting.meet_all.Goals as goal
 
 pub loop-i-init : goal.loop-i-init
 loop-i-init g c =
-    (HaveMet-none c.args.shapes.now c.args.bodies.now c.args.centers.now (held_by c.args.contacts.now) (length c.args.loads.now) c.clear.new.loads c.args.fresh.now c.clear.ensures c.requires.loads, refl, omega arith)
+    (HaveMet-none c.args.shapes.now c.args.bodies.now c.args.spheres.now.centers (held_by c.args.contacts.now) (length c.args.loads.now) c.clear.new.loads c.args.fresh.now c.clear.ensures c.requires.loads, refl, omega arith)
 
 pub meet-requires-clause-pair : goal.meet-requires-clause-pair
 meet-requires-clause-pair g c =
@@ -27,7 +27,7 @@ meet-requires-clause-held g c =
 
 pub meet-requires-clause-loads : goal.meet-requires-clause-loads
 meet-requires-clause-loads g c =
-    loads-met c.args.shapes.now c.args.bodies.now c.args.centers.now (held_by c.args.contacts.now) c.args.contacts.now.list.pairs c.loop-i.i c.loop-i.loads c.loop-i.fresh c.requires.pairs c.loop-i.invariant.0
+    loads-met c.args.shapes.now c.args.bodies.now c.args.spheres.now.centers (held_by c.args.contacts.now) c.args.contacts.now.list.pairs c.loop-i.i c.loop-i.loads c.loop-i.fresh c.requires.pairs c.loop-i.invariant.0
 
 pub loop-i-preserved : goal.loop-i-preserved
 loop-i-preserved g c =
@@ -39,7 +39,7 @@ loop-i-preserved g c =
     entry-here c.args.contacts.now.list.pairs c.args.contacts.now.entries c.loop-i.i c.get-pair.result ascends c.list.ensures.as_many lt
     (λ d. get_or_from_slice_get c.args.contacts.now.list.pairs c.loop-i.i c.get-pair.result d there)
     ∙ get_or_from_slice_get c.args.contacts.now.entries c.loop-i.i c.held-held.result None c.held-held.ensures in (
-      HaveMet-more c.args.shapes.now c.args.bodies.now c.args.centers.now (held_by c.args.contacts.now) c.args.contacts.now.list.pairs c.loop-i.i c.get-pair.result c.held-held.result
+      HaveMet-more c.args.shapes.now c.args.bodies.now c.args.spheres.now.centers (held_by c.args.contacts.now) c.args.contacts.now.list.pairs c.loop-i.i c.get-pair.result c.held-held.result
           c.loop-i.loads c.meet.new.loads c.loop-i.fresh c.meet.result there held (omega (arith, c.requires.fresh, c.loop-i.invariant.1)) c.meet.ensures.loads c.meet.ensures.entry c.meet.ensures.small c.loop-i.invariant.0,
       length-set c.loop-i.fresh c.loop-i.i c.meet.result ∙ c.loop-i.invariant.1,
       omega (arith, c.meet.ensures.counted, c.loop-i.invariant.2),

@@ -17,7 +17,7 @@ invariant_of-result c = (
       (stepper-first c.args.shapes.now c.args.drift c.in_ok-first_bodies.field-0 c.scene-scene.ensures.sound c.requires
       (c.in_ok-first_bodies.ensures ∙ ap (λ (s : SceneValue). (first_state s).bodies) c.scene-scene.ensures.value)),
   record {
-    centre_each = c.in_ok-new.ensures;
+    places = c.in_ok-new.ensures;
     load_each = ap length c.in_ok-no_loads.ensures ∙ length-replicate (length c.args.shapes.now.clumps) no_load;
     body_each = first-count c.args.shapes.now c.in_ok-first_bodies-2.field-0 (c.in_ok-first_bodies-2.ensures ∙ ap (λ (s : SceneValue). (first_state s).bodies) c.scene-scene.ensures.value);
     entry_each = omega (arith, ap (λ (h : HeldByPlace). length h.list.pairs) c.new.ensures);

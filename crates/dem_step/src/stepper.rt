@@ -3,6 +3,7 @@
 ghost use Rattle.std.specs.Prelude.{◌≡◌, ◌+◌, ◌<◌, ◌≤◌, [], length, slice_get, Some, None, IfOk, IfErr, OnOk, OnErr, IfSome};
 ghost use Rattle.std.specs.Option.{is_some, IsSomeAnd};
 ghost use Rattle.dem_model.specs.Carry.{carried, Agrees};
+ghost use Rattle.dem_model.specs.Motion.{AreSound};
 ghost use Rattle.dem_model.specs.Plain.{first_state, plain_at};
 ghost use Rattle.dem_step.specs.Stepper.{IsNearList, MakesStep, held_by};
 
@@ -128,7 +129,8 @@ impl<'s> Dyn<'s> {
     /// Copies the number of the step and the bodies into a snapshot.
     pub fn snapshot_into(&self, snap: &mut Snapshot)
         requires { length snap.old.bodies ≡ length self.now.scene.clumps }
-        ensures { snap.new ≡ record { step = self.now.state.step; bodies = self.now.state.bodies } }
+        ensures value { snap.new ≡ record { step = self.now.state.step; bodies = self.now.state.bodies } }
+        ensures sound { AreSound self.now.scene snap.new.bodies }
     {
         snap.step = self.step;
         for k in 0..self.bodies.len() {

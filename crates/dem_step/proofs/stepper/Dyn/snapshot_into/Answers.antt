@@ -1,5 +1,7 @@
-use Rattle.std.proofs.Common.{◌≡◌, ◌+◌, ◌<◌, ℕ, List, length, take, sym, ap, ap₂, ◌∙◌, arith, ◌++◌, ◌∷◌, []}
+use Rattle.std.proofs.Common.{subst, ◌≡◌, ◌+◌, ◌<◌, ℕ, List, length, take, sym, ap, ap₂, ◌∙◌, arith, ◌++◌, ◌∷◌, []}
 use Rattle.std.proofs.lemmas.Option.{slice_get_within}
+use Rattle.dem_model.specs.SceneValue.{SceneValue}
+use Rattle.dem_model.specs.Motion.{AreSound}
 use Rattle.dem_model.specs.declared.state.Body.{Body}
 use Rattle.dem_shape.specs.declared.snapshot.Snapshot.{Snapshot}
 use Rattle.dem_step.specs.Stepper.{Stepper, state_at}
@@ -25,8 +27,8 @@ loop-k-preserved c =
       c.loop-k.invariant.2,
     )
 
-pub returns : goal.returns
-returns c =
+pub returns-clause-value : goal.returns-clause-value
+returns-clause-value c =
     let clumps : length c.self.inside.shapes.now.clumps ≡ length c.args.self.now.scene.clumps = ap (λ (r : Stepper). length r.scene.clumps) c.self.view_is in
     let snap : ℕ → List Body → Snapshot = λ step bodies. record { step = step; bodies = bodies } in
     let bodies : c.loop-k.snap.bodies ≡ c.self.inside.bodies =
@@ -37,3 +39,13 @@ returns c =
     sym (plain-number c.self.inside.shapes.now c.self.inside.step (state_at c.self.inside.shapes.now c.self.inside.step) c.self.invariant.0.plain)
     ∙ ap (λ (r : Stepper). r.state.step) c.self.view_is in
     ap₂ snap (c.loop-k.invariant.2 ∙ step) (bodies ∙ c.self.invariant.0.bodies_are ∙ ap (λ (r : Stepper). r.state.bodies) c.self.view_is)
+
+pub returns-clause-sound : goal.returns-clause-sound
+returns-clause-sound c =
+    let clumps : length c.self.inside.shapes.now.clumps ≡ length c.args.self.now.scene.clumps = ap (λ (r : Stepper). length r.scene.clumps) c.self.view_is in
+    let bodies : c.loop-k.snap.bodies ≡ c.self.inside.bodies =
+    sym (take-whole c.loop-k.snap.bodies c.loop-k.k (omega (arith, c.self.invariant.0.sound.count, c.loop-k.invariant.1)))
+    ∙ c.loop-k.invariant.0
+    ∙ take-whole c.self.inside.bodies c.loop-k.k (omega arith) in
+    subst (λ (s : SceneValue). AreSound s c.loop-k.snap.bodies) (ap (λ (r : Stepper). r.scene) c.self.view_is)
+    (subst (AreSound c.self.inside.shapes.now) (sym bodies) c.self.invariant.0.sound)

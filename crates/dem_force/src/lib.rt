@@ -16,6 +16,7 @@ mod mixing;
 mod motion;
 mod normal;
 mod push;
+mod quotients;
 mod short;
 mod side_list;
 mod sides;

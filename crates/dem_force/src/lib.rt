@@ -21,6 +21,7 @@ mod short;
 mod side_list;
 mod sides;
 mod sliding;
+mod small;
 mod spheres;
 #[cfg(test)]
 mod tests;

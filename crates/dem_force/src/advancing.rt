@@ -14,8 +14,9 @@ ghost use Rattle.dem_model.specs.Advance.{
   body_with,
 };
 
+use crate::quotients::over;
 use dem_model::{Body, MAX_MOMENT};
-use dem_num::{Vec3, Wide3, add, cl3, mul, narrow, sh, sub, tdiv};
+use dem_num::{Vec3, Wide3, add, cl3, mul, narrow, reciprocal, sh, sub};
 use dem_turn::{matrix, turn_step, turned_back};
 
 /// The greatest component of a torque that is turned to body axes: 2^90.
@@ -31,15 +32,16 @@ pub fn velocity(gravity: Vec3, mass: u64, v: Vec3, force: Wide3) -> Wide3
     ensures value { result ≡ velocity_after gravity mass v force }
     ensures size { Within result (2 ^ 85) }
 {
+    let near = reciprocal(mass);
     Wide3 {
-        x: faster(v.x, gravity.x, force.x, mass),
-        y: faster(v.y, gravity.y, force.y, mass),
-        z: faster(v.z, gravity.z, force.z, mass),
+        x: faster(v.x, gravity.x, force.x, mass, near),
+        y: faster(v.y, gravity.y, force.y, mass, near),
+        z: faster(v.z, gravity.z, force.z, mass, near),
     }
 }
 
-/// A component of the new velocity.
-fn faster(v: i64, gravity: i64, force: i128, mass: u64) -> i128
+/// A component of the new velocity; the reciprocal of the mass is near this one.
+fn faster(v: i64, gravity: i64, force: i128, mass: u64, near: u64) -> i128
     requires gravity_small { AtMost gravity (2 ^ 20) }
     requires has_mass { 1 ≤ mass }
     requires old_small { AtMost v (2 ^ 40) }
@@ -47,17 +49,17 @@ fn faster(v: i64, gravity: i64, force: i128, mass: u64) -> i128
     ensures value { result ≡ v +ℤ gravity +ℤ quotient force (pos mass) }
     ensures size { AtMost result (2 ^ 85) }
 {
-    add(add(v as i128, gravity as i128), share(force, mass))
+    add(add(v as i128, gravity as i128), share(force, mass, near))
 }
 
-/// A component of force over mass.
-fn share(force: i128, mass: u64) -> i128
+/// A component of force over mass; the reciprocal of the mass is near this one.
+fn share(force: i128, mass: u64, near: u64) -> i128
     requires has_mass { 1 ≤ mass }
     requires force_small { AtMost force (2 ^ 84) }
     ensures value { result ≡ quotient force (pos mass) }
     ensures size { AtMost result (2 ^ 84) }
 {
-    tdiv(force, mass as i128)
+    over(force, mass, near)
 }
 
 /// The torque in body axes.
@@ -87,16 +89,39 @@ pub fn spin(moments: Vec3, w: Vec3, torque: Wide3) -> Wide3
     ensures value { result ≡ spin_after moments w torque }
     ensures size { Within result (2 ^ 94) }
 {
+    let x = reciprocal(moments.x as u64);
+    let y = next_reciprocal(moments.x, x, moments.y);
+    let z = next_reciprocal(moments.y, y, moments.z);
     Wide3 {
-        x: spin_part(w.x, torque.x, moments.x, moments.y, moments.z, w.y, w.z),
-        y: spin_part(w.y, torque.y, moments.y, moments.z, moments.x, w.z, w.x),
-        z: spin_part(w.z, torque.z, moments.z, moments.x, moments.y, w.x, w.y),
+        x: spin_part(w.x, torque.x, moments.x, moments.y, moments.z, w.y, w.z, x),
+        y: spin_part(w.y, torque.y, moments.y, moments.z, moments.x, w.z, w.x, y),
+        z: spin_part(w.z, torque.z, moments.z, moments.x, moments.y, w.x, w.y, z),
     }
 }
 
-/// A component of the new spin, by Euler's equation about a principal axis.
+/// About the reciprocal of a moment: that of the one before, where they are equal.
+fn next_reciprocal(before: i64, near: u64, moment: i64) -> u64
+    requires { IsBetween (pos 1) (pos MAX_MOMENT) moment }
+{
+    if moment == before {
+        near
+    } else {
+        reciprocal(moment as u64)
+    }
+}
+
+/// A component of the new spin, by Euler's equation about a principal axis; the reciprocal of its own moment is near this one.
 #[tactic(auto, unfolding(dem_model::specs::Advance::spin_component))]
-fn spin_part(w: i64, torque: i128, own: i64, first: i64, second: i64, u: i64, v: i64) -> i128
+fn spin_part(
+    w: i64,
+    torque: i128,
+    own: i64,
+    first: i64,
+    second: i64,
+    u: i64,
+    v: i64,
+    near: u64,
+) -> i128
     requires own_within { IsBetween (pos 1) (pos MAX_MOMENT) own }
     requires first_within { IsBetween (pos 1) (pos MAX_MOMENT) first }
     requires second_within { IsBetween (pos 1) (pos MAX_MOMENT) second }
@@ -108,7 +133,7 @@ fn spin_part(w: i64, torque: i128, own: i64, first: i64, second: i64, u: i64, v:
     ensures size { AtMost result (2 ^ 94) }
 {
     let turning = gyrating(torque, first, second, u, v);
-    add(w as i128, spun_up(turning, own))
+    add(w as i128, spun_up(turning, own, near))
 }
 
 /// A component of the torque, and of what the spin itself does to it.
@@ -168,14 +193,14 @@ fn times(a: i128, u: i64) -> i128
     mul(a, u as i128)
 }
 
-/// A torque over a moment of inertia.
-fn spun_up(torque: i128, moment: i64) -> i128
+/// A torque over a moment of inertia, of which the reciprocal is near this one.
+fn spun_up(torque: i128, moment: i64, near: u64) -> i128
     requires moment_within { IsBetween (pos 1) (pos MAX_MOMENT) moment }
     requires torque_small { AtMost torque (2 ^ 93) }
     ensures value { result ≡ quotient torque moment }
     ensures size { AtMost result (2 ^ 93) }
 {
-    tdiv(torque, moment as i128)
+    over(torque, moment as u64, near)
 }
 
 /// The new position: the old one, moved by the new velocity.

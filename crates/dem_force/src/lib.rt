@@ -16,10 +16,12 @@ mod mixing;
 mod motion;
 mod normal;
 mod push;
+mod quotients;
 mod short;
 mod side_list;
 mod sides;
 mod sliding;
+mod small;
 mod spheres;
 #[cfg(test)]
 mod tests;

@@ -1,8 +1,8 @@
 //! How the two sides of a contact move against each other: levers, surface velocities, parts along and across the normal.
 
-ghost use Rattle.std.specs.Prelude.{◌≡◌, ◌^◌, ◌≤◌, ◌*ℤ◌, unsigned_abs};
+ghost use Rattle.std.specs.Prelude.{◌≡◌, pos, ◌^◌, ◌≤◌, ◌*ℤ◌, unsigned_abs};
 ghost use Rattle.dem_num.specs.Numbers.{AtMost, shifted};
-ghost use Rattle.dem_num.specs.Vectors.{widened, Within, difference_of, shifted_each, cross_of};
+ghost use Rattle.dem_num.specs.Vectors.{widened, Within, difference_of, shifted_each, cross_of, turn_product};
 ghost use Rattle.dem_model.specs.Law.{
   contact_radius_of,
   depth_of,
@@ -17,8 +17,9 @@ ghost use Rattle.dem_model.specs.Law.{
 ghost use Rattle.dem_model.specs.Ranges.{IsBounded};
 
 use crate::short::{short, short3};
+use crate::small::{difference, difference3, floor, product, total3};
 use dem_model::Side;
-use dem_num::{Vec3, Wide3, add3, cross, dot, mul, root, sh, sh3, sub3, widen};
+use dem_num::{Vec3, Wide3, dot, mul, root, sh, sub3, widen};
 
 /// The radius of the contact's circle, in u, from the effective radius and the overlap.
 #[tactic(auto, unfolding(dem_model::specs::Law::contact_radius_of))]
@@ -64,59 +65,122 @@ pub fn vector_along(length: i128, n: Vec3) -> Wide3
     }
 }
 
+/// A component of a length along the normal, in u.
+fn reached(length: u64, n: i64) -> i64
+    requires length_small { length ≤ 2 ^ 26 }
+    requires normal { AtMost n (2 ^ 30) }
+    ensures value { result ≡ shifted (pos length *ℤ n) 30 }
+    ensures size { AtMost result (2 ^ 26) }
+{
+    floor(product(length as i64, n), 30)
+}
+
+/// A vector along the normal, of a length in u.
+fn reach(length: u64, n: Vec3) -> Vec3
+    requires length_small { length ≤ 2 ^ 26 }
+    requires normal { Within (widened n) (2 ^ 30) }
+    ensures value { widened result ≡ along (pos length) n }
+    ensures size { Within (widened result) (2 ^ 26) }
+{
+    Vec3 {
+        x: reached(length, n.x),
+        y: reached(length, n.y),
+        z: reached(length, n.z),
+    }
+}
+
 /// From the first clump's position to the contact.
 #[tactic(auto, unfolding(dem_model::specs::Law::lever_a_of))]
-pub fn lever_a(a: &Side, n: Vec3, delta: u64) -> Wide3
+pub fn lever_a(a: &Side, n: Vec3, delta: u64) -> Vec3
     requires side { IsBounded a.now }
     requires normal { Within (widened n) (2 ^ 30) }
-    ensures value { result ≡ lever_a_of a.now n delta }
-    ensures size { Within result (2 ^ 29) }
+    ensures value { widened result ≡ lever_a_of a.now n delta }
+    ensures size { Within (widened result) (2 ^ 29) }
 {
-    sub3(widen(a.lever), vector_along(depth(a.r, delta) as i128, n))
+    difference3(a.lever, reach(depth(a.r, delta), n))
 }
 
 /// From the second clump's position to the contact.
 #[tactic(auto, unfolding(dem_model::specs::Law::lever_b_of))]
-pub fn lever_b(b: &Side, n: Vec3, delta: u64) -> Wide3
+pub fn lever_b(b: &Side, n: Vec3, delta: u64) -> Vec3
     requires side { IsBounded b.now }
     requires normal { Within (widened n) (2 ^ 30) }
-    ensures value { result ≡ lever_b_of b.now n delta }
-    ensures size { Within result (2 ^ 29) }
+    ensures value { widened result ≡ lever_b_of b.now n delta }
+    ensures size { Within (widened result) (2 ^ 29) }
 {
-    add3(widen(b.lever), vector_along(depth(b.r, delta) as i128, n))
+    total3(b.lever, reach(depth(b.r, delta), n))
 }
 
 /// The velocity that a spin gives to the end of a lever.
-pub fn swept(spin: Vec3, lever: Wide3) -> Wide3
+pub fn swept(spin: Vec3, lever: Vec3) -> Vec3
     requires spin_small { Within (widened spin) (2 ^ 30) }
-    requires lever_small { Within lever (2 ^ 29) }
-    ensures value { result ≡ shifted_each (cross_of (widened spin) lever) 14 }
-    ensures size { Within result (2 ^ 46) }
+    requires lever_small { Within (widened lever) (2 ^ 29) }
+    ensures value { widened result ≡ shifted_each (cross_of (widened spin) (widened lever)) 14 }
+    ensures size { Within (widened result) (2 ^ 46) }
 {
-    sh3(cross(spin, short3(lever)), 14)
+    Vec3 {
+        x: swept_part(spin.y, lever.z, spin.z, lever.y),
+        y: swept_part(spin.z, lever.x, spin.x, lever.z),
+        z: swept_part(spin.x, lever.y, spin.y, lever.x),
+    }
+}
+
+/// A component of the velocity that a spin gives to the end of a lever.
+fn swept_part(u: i64, x: i64, v: i64, y: i64) -> i64
+    requires u_small { AtMost u (2 ^ 30) }
+    requires x_small { AtMost x (2 ^ 29) }
+    requires v_small { AtMost v (2 ^ 30) }
+    requires y_small { AtMost y (2 ^ 29) }
+    ensures value { result ≡ shifted (turn_product u x v y) 14 }
+    ensures size { AtMost result (2 ^ 46) }
+{
+    floor(crossed(u, x, v, y), 14)
+}
+
+/// The product of a spin's and a lever's component, less that of two others.
+#[tactic(auto, unfolding(dem_num::specs::Vectors::turn_product))]
+fn crossed(u: i64, x: i64, v: i64, y: i64) -> i64
+    requires u_small { AtMost u (2 ^ 30) }
+    requires x_small { AtMost x (2 ^ 29) }
+    requires v_small { AtMost v (2 ^ 30) }
+    requires y_small { AtMost y (2 ^ 29) }
+    ensures value { result ≡ turn_product u x v y }
+    ensures size { AtMost result (2 ^ 60) }
+{
+    difference(speed_of(u, x), speed_of(v, y))
+}
+
+/// The product of a component of a spin and one of a lever.
+fn speed_of(u: i64, x: i64) -> i64
+    requires u_small { AtMost u (2 ^ 30) }
+    requires x_small { AtMost x (2 ^ 29) }
+    ensures value { result ≡ u *ℤ x }
+    ensures size { AtMost result (2 ^ 59) }
+{
+    product(u, x)
 }
 
 /// The velocity of a side at the contact, in u per step times 2^16.
 #[tactic(auto, unfolding(dem_model::specs::Law::surface_velocity_of))]
-pub fn surface_velocity(side: &Side, lever: Wide3) -> Wide3
+pub fn surface_velocity(side: &Side, lever: Vec3) -> Vec3
     requires side { IsBounded side.now }
-    requires lever_small { Within lever (2 ^ 29) }
-    ensures value { result ≡ surface_velocity_of side.now lever }
-    ensures size { Within result (2 ^ 47) }
+    requires lever_small { Within (widened lever) (2 ^ 29) }
+    ensures value { widened result ≡ surface_velocity_of side.now (widened lever) }
+    ensures size { Within (widened result) (2 ^ 47) }
 {
-    add3(widen(side.v), swept(side.spin, lever))
+    total3(side.v, swept(side.spin, lever))
 }
 
 /// The velocity of the first side against the second, at the contact.
 #[tactic(auto, unfolding(dem_model::specs::Law::relative_velocity_of))]
-pub fn relative_velocity(a: &Side, b: &Side, n: Vec3, delta: u64) -> Wide3
+pub fn relative_velocity(a: &Side, b: &Side, n: Vec3, delta: u64) -> Vec3
     requires first { IsBounded a.now }
     requires second { IsBounded b.now }
     requires normal { Within (widened n) (2 ^ 30) }
-    ensures value { result ≡ relative_velocity_of a.now b.now n delta }
-    ensures size { Within result (2 ^ 48) }
+    ensures value { widened result ≡ relative_velocity_of a.now b.now n delta }
+    ensures size { Within (widened result) (2 ^ 48) }
 {
-    sub3(
+    difference3(
         surface_velocity(a, lever_a(a, n, delta)),
         surface_velocity(b, lever_b(b, n, delta)),
     )
@@ -173,7 +237,7 @@ pub fn motion_between(a: &Side, b: &Side, n: Vec3, delta: u64) -> Motion
     ensures speed_size { AtMost result.speed (2 ^ 50) }
     ensures slip_size { Within result.slip (2 ^ 51) }
 {
-    let u = relative_velocity(a, b, n, delta);
+    let u = widen(relative_velocity(a, b, n, delta));
     let speed = part_along(n, u);
     Motion {
         speed,

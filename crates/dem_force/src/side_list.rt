@@ -10,10 +10,10 @@ ghost use Rattle.dem_force.specs.Sides.{AreSides};
 
 use crate::law::contact;
 use crate::mixing::wall_side;
-use crate::sides::{law_between, sphere_side};
+use crate::sides::{law_between, posed_side};
 use dem_model::{Body, OutOfMemory, Pair, Push, Side, Touch};
 use dem_num::Vec3;
-use dem_shape::Shapes;
+use dem_shape::{Pose, Shapes};
 use std::alloc::Global;
 use std::marker::Model;
 
@@ -52,8 +52,11 @@ impl Sides {
         requires sound { AreSound shapes.now bodies.now }
         ensures { AreSides shapes.now bodies.now self.new }
     {
+        let _scene = shapes.scene();
+        let mut pose = Pose::new(shapes, bodies, 0);
         for s in 0..shapes.spheres() {
-            self.items[s as usize] = sphere_side(shapes, bodies, s);
+            pose = pose.for_sphere(shapes, bodies, s);
+            self.items[s as usize] = posed_side(shapes, bodies, &pose, s);
         }
     }
 

@@ -2,6 +2,7 @@
 
 ghost use Rattle.std.specs.Prelude.{◌≡◌, ◌<◌, ◌≤◌, ◌^◌, length};
 ghost use Rattle.dem_num.specs.Vectors.{widened, Within};
+ghost use Rattle.dem_num.specs.Rotations.{matrix_of, EntriesWithin};
 ghost use Rattle.dem_model.specs.Advance.{mass_of};
 ghost use Rattle.dem_model.specs.Motion.{AreSound, IsPair};
 ghost use Rattle.dem_model.specs.Pairs.{sphere_count, limit_of, sphere_at};
@@ -18,30 +19,42 @@ ghost use Rattle.dem_model.specs.Step.{
   push_of,
 };
 ghost use Rattle.dem_model.specs.declared.limits.TheConstants.{MAX_MASS};
+ghost use Rattle.dem_shape.specs.Pose.{IsPose};
 
 use crate::law::contact;
 use crate::mixing::{mix, wall_side};
 use crate::touching::wall_of;
 use dem_model::{Body, Law, Material, Pair, Push, Side, Touch};
-use dem_num::Vec3;
-use dem_shape::Shapes;
+use dem_num::{Rows, Vec3};
+use dem_shape::{Pose, Shapes};
 use dem_turn::{matrix, turned, turned_spin};
 
 /// The side of a sphere: the velocity and the world spin of its clump, its turned offset, its radius, its clump's mass.
-#[tactic(auto, unfolding(dem_model::specs::Step::side_from, dem_model::specs::Step::side_with))]
 pub fn side_of(shapes: &Shapes, body: &Body, sphere: u32) -> Side
     requires sphere { sphere < sphere_count shapes.now }
     requires body { IsBodyOf shapes.now (clump_of_sphere shapes.now sphere) body.now }
     ensures value { result ≡ side_from shapes.now body.now sphere }
     ensures ranges { IsFirst result }
 {
+    side_by(shapes, body, &matrix(body.q), sphere)
+}
+
+/// The side of a sphere, from the body of its clump and the body's matrix.
+#[tactic(auto, unfolding(dem_model::specs::Step::side_from, dem_model::specs::Step::side_with))]
+fn side_by(shapes: &Shapes, body: &Body, rows: &Rows, sphere: u32) -> Side
+    requires sphere { sphere < sphere_count shapes.now }
+    requires body { IsBodyOf shapes.now (clump_of_sphere shapes.now sphere) body.now }
+    requires rows { rows.now ≡ matrix_of body.now.q }
+    requires entries { EntriesWithin rows.now (2 ^ 30) }
+    ensures value { result ≡ side_from shapes.now body.now sphere }
+    ensures ranges { IsFirst result }
+{
     let _scene = shapes.scene();
     let ball = shapes.ball_of(sphere);
-    let rows = matrix(body.q);
     Side {
         v: body.v,
-        spin: turned_spin(&rows, body.w),
-        lever: turned(&rows, ball.at),
+        spin: turned_spin(rows, body.w),
+        lever: turned(rows, ball.at),
         r: ball.r,
         mass: mass(shapes, sphere),
         wall: false,
@@ -105,6 +118,19 @@ pub fn sphere_side(shapes: &Shapes, bodies: &[Body], sphere: u32) -> Side
     ensures ranges { IsFirst result }
 {
     side_of(shapes, &bodies[shapes.clump_of(sphere) as usize], sphere)
+}
+
+/// The side of a sphere, where the bodies are these and the pose is that of the sphere's clump.
+#[tactic(auto, unfolding(dem_model::specs::Step::side_of))]
+pub fn posed_side(shapes: &Shapes, bodies: &[Body], pose: &Pose, sphere: u32) -> Side
+    requires sphere { sphere < sphere_count shapes.now }
+    requires sound { AreSound shapes.now bodies.now }
+    requires pose { IsPose shapes.now bodies.now (sphere_at shapes.now sphere).clump pose.now }
+    ensures value { result ≡ side_of shapes.now bodies.now sphere }
+    ensures ranges { IsFirst result }
+{
+    let body = &bodies[shapes.clump_of(sphere) as usize];
+    side_by(shapes, body, &pose.rows, sphere)
 }
 
 /// The second side of a pair: that of a sphere or of a wall.

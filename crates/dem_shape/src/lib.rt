@@ -2,7 +2,7 @@
 //!
 //! `Shapes` numbers the spheres through all clumps in order and answers each one's clump, template sphere, arm and
 //! movement bound in constant time; `is_apart` tells which pairs may touch at all; `Centers` holds a centre per sphere,
-//! `Snapshot` the bodies of a step. Means: `Spheres`, `Pairs`, `Centres`, `Motion` of dem_model. Callers rest on: a Shapes
+//! `Snapshot` the bodies of a step, `Pose` one clump's matrix. Means: `Spheres`, `Pairs`, `Centres`, `Motion` of dem_model. Callers rest on: a Shapes
 //! is seen as its scene, a Centers as the list of centres; `fill` makes them those of the bodies.
 //! Takes memory: the three `new`. Not here: touch (dem_force), rotations (dem_turn).
 #![tactic(auto)]
@@ -18,5 +18,6 @@ mod tests;
 
 pub use apart::is_apart;
 pub use centers::Centers;
+pub use pose::Pose;
 pub use shapes::Shapes;
 pub use snapshot::Snapshot;

@@ -1,7 +1,7 @@
 use Rattle.std.proofs.Common.{◌^◌, refl}
 use Rattle.dem_num.specs.Vectors.{widened}
 use Rattle.dem_num.proofs.VectorSizes.{within_wider}
-use Rattle.dem_force.proofs.sides.side_of.Goals as goal
+use Rattle.dem_force.proofs.sides.side_by.Goals as goal
 
 pub turned_spin-requires-clause-spin : goal.turned_spin-requires-clause-spin
 turned_spin-requires-clause-spin c = within_wider (widened c.args.body.now.w) c.args.shapes.now.spin (2 ^ 28) c.requires.body.body.w c.scene-scene.ensures.sound.spin.le_high

@@ -1,0 +1,70 @@
+//! Sums, products and floors at 64 bits, each with the size that its callers bound theirs by.
+
+ghost use Rattle.std.specs.Prelude.{◌≡◌, ◌+◌, ◌-◌, ◌*◌, ◌/◌, ◌^◌, ◌<◌, ◌≤◌, ◌+ℤ◌, ◌-ℤ◌, ◌*ℤ◌, unsigned_abs};
+ghost use Rattle.dem_num.specs.Numbers.{shifted};
+ghost use Rattle.dem_num.specs.Vectors.{widened, sum_of, difference_of, Within};
+
+use dem_num::Vec3;
+
+/// The product of two numbers.
+pub fn product(a: i64, b: i64) -> i64
+    requires { unsigned_abs a * unsigned_abs b < 2 ^ 63 }
+    ensures value { result ≡ a *ℤ b }
+    ensures size { unsigned_abs result ≡ unsigned_abs a * unsigned_abs b }
+{
+    a * b
+}
+
+/// The sum of two numbers.
+pub fn total(a: i64, b: i64) -> i64
+    requires { unsigned_abs a + unsigned_abs b < 2 ^ 63 }
+    ensures value { result ≡ a +ℤ b }
+    ensures size { unsigned_abs result ≤ unsigned_abs a + unsigned_abs b }
+{
+    a + b
+}
+
+/// The first number less the second.
+pub fn difference(a: i64, b: i64) -> i64
+    requires { unsigned_abs a + unsigned_abs b < 2 ^ 63 }
+    ensures value { result ≡ a -ℤ b }
+    ensures size { unsigned_abs result ≤ unsigned_abs a + unsigned_abs b }
+{
+    a - b
+}
+
+/// The floor of `x / 2^k`.
+#[tactic(auto, unfolding(dem_num::specs::Numbers::shifted))]
+pub fn floor(x: i64, k: u32) -> i64
+    requires { k ≤ 62 }
+    ensures value { result ≡ shifted x k }
+    ensures size { unsigned_abs result ≤ (unsigned_abs x + 2 ^ k - 1) / 2 ^ k }
+{
+    x >> k
+}
+
+/// The sum of two vectors.
+pub fn total3(a: Vec3, b: Vec3) -> Vec3
+    requires first { Within (widened a) (2 ^ 61) }
+    requires second { Within (widened b) (2 ^ 61) }
+    ensures { widened result ≡ sum_of (widened a) (widened b) }
+{
+    Vec3 {
+        x: total(a.x, b.x),
+        y: total(a.y, b.y),
+        z: total(a.z, b.z),
+    }
+}
+
+/// The first vector less the second.
+pub fn difference3(a: Vec3, b: Vec3) -> Vec3
+    requires first { Within (widened a) (2 ^ 61) }
+    requires second { Within (widened b) (2 ^ 61) }
+    ensures { widened result ≡ difference_of (widened a) (widened b) }
+{
+    Vec3 {
+        x: difference(a.x, b.x),
+        y: difference(a.y, b.y),
+        z: difference(a.z, b.z),
+    }
+}

@@ -22,7 +22,11 @@ fn main(rt: HostRuntime) -> anyhow::Result<()> {
             println!(rt; "not a scene")?;
             continue;
         };
-        println!(rt; "scene of {} clumps, {} steps", scene.clumps.len(), scene.steps)?;
+        println!(rt;
+            "scene of {} clumps, {} steps",
+            scene.clumps.len(),
+            scene.steps
+        )?;
         for drift in [0, 1, 3, 4, 20, 1024] {
             match trial(rt.alloc(), &scene, drift) {
                 Ok(report) => println!(rt; "{report}")?,

@@ -4,12 +4,15 @@ ghost use Rattle.std.specs.Prelude.{◌≡◌};
 
 use std::fmt::{self, Display, Formatter};
 
+/// List number n is wanted at the age of so many times n, modulo the drift limit and one.
+const STRIDE: u32 = 19;
+
 /// What a trial came to so far.
 #[derive(Clone, Copy)]
 pub struct Report {
     /// The drift limit.
     pub drift: u32,
-    /// The pairs that are near in the first state.
+    /// The pairs of the first list.
     pub first_pairs: u32,
     /// The steps that both runs made.
     pub steps: u32,
@@ -31,12 +34,12 @@ pub struct Report {
 
 impl Report {
     /// The report at the start of a trial.
-    pub fn new(drift: u32, first_pairs: u32) -> Report
+    pub fn new(drift: u32) -> Report
         ensures { result.drift ≡ drift }
     {
         Report {
             drift,
-            first_pairs,
+            first_pairs: 0,
             steps: 0,
             lists: 0,
             taken_at: 0,
@@ -48,10 +51,19 @@ impl Report {
         }
     }
 
-    /// Notes a list that was taken into use at this age.
-    pub fn note_list(&mut self, age: u32)
+    /// The age at which the next list is to be taken into use, at most the drift limit; the ages come in mixed order.
+    pub fn wanted_age(&self) -> u32 {
+        let ages = self.drift.saturating_add(1).max(1);
+        (self.lists % ages).saturating_mul(STRIDE) % ages
+    }
+
+    /// Notes a list of so many pairs that was taken into use at this age.
+    pub fn note_list(&mut self, age: u32, pairs: u32)
         ensures { self.new.drift ≡ self.old.drift }
     {
+        if self.lists == 0 {
+            self.first_pairs = pairs;
+        }
         self.lists = self.lists.saturating_add(1);
         self.taken_at = self.taken_at.max(age);
     }
@@ -74,12 +86,24 @@ impl Report {
 
 impl Display for Report {
     fn fmt<W: fmt::Write>(&self, f: &mut Formatter<W>) -> fmt::Result {
-        write!(f, "drift {}: {} pairs near at first; ", self.drift, self.first_pairs)?;
+        write!(
+            f,
+            "drift {}: {} pairs near at first; ",
+            self.drift, self.first_pairs
+        )?;
         write!(f, "{} steps on {} lists, ", self.steps, self.lists)?;
         write!(f, "taken into use at ages 0 to {}, ", self.taken_at)?;
         write!(f, "stepped on at ages 0 to {}; ", self.stepped_at)?;
-        write!(f, "{} displacements, at most {} at once; ", self.displacements, self.most)?;
-        f.write_str(if self.same { "the same" } else { "NOT THE SAME" })?;
+        write!(
+            f,
+            "{} displacements, at most {} at once; ",
+            self.displacements, self.most
+        )?;
+        f.write_str(if self.same {
+            "the same"
+        } else {
+            "NOT THE SAME"
+        })?;
         f.write_str(if self.ended { "; ended" } else { "" })
     }
 }

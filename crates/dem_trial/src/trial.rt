@@ -2,13 +2,12 @@
 
 ghost use Rattle.std.specs.Prelude.{◌≡◌, ◌<◌, ◌≤◌};
 
-use crate::listing::{is_due, may_take, near_list, take};
+use crate::listing::{near_list, take};
 use crate::report::Report;
 use crate::stepping::advance;
-use dem_list::PairList;
 use dem_model::{OutOfMemory, Scene, Steps};
 use dem_plain::PlainRun;
-use dem_shape::{Shapes, Snapshot};
+use dem_shape::Shapes;
 use dem_step::Dyn;
 use std::alloc::Global;
 use std::marker::Brand;
@@ -18,45 +17,63 @@ use std::sync::ledger::{Blank, Ledger};
 pub fn trial(alloc: Global, scene: &Scene, drift: u32) -> Result<Report, OutOfMemory>
     requires { drift ≤ 1024 }
 {
-    trial_counted::<Brand>(alloc, scene, drift, Blank::new(1))
+    let shapes = Shapes::new(alloc, scene)?;
+    let mut plain = PlainRun::new(alloc, scene)?;
+    let mut run = Dyn::new(alloc, &shapes, drift)?;
+    side_by_side::<Brand>(alloc, &shapes, &mut plain, &mut run, drift, Blank::new(1))
 }
 
-/// The trial, with its tests counted on a counter that nobody reads. A list that was made waits until it is due; the next one is
-/// made after the step on which it was taken into use.
-fn trial_counted<L: Ledger>(
+/// Makes all steps of both runs, with their tests counted on a counter that nobody reads.
+fn side_by_side<L: Ledger>(
     alloc: Global,
-    scene: &Scene,
+    shapes: &Shapes,
+    plain: &mut PlainRun,
+    run: &mut Dyn,
     drift: u32,
     blank: Blank,
 ) -> Result<Report, OutOfMemory>
     requires name { blank.name ≡ L.name }
     requires parts { blank.parts ≡ L.parts }
     requires some { 0 < L.parts }
-    requires drift { drift ≤ 1024 }
+    requires plain { plain.old.scene ≡ shapes.now }
+    requires scene { run.old.scene ≡ shapes.now }
+    requires drift { run.old.drift ≡ drift }
+    requires small { drift ≤ 1024 }
 {
-    let shapes = Shapes::new(alloc, scene)?;
-    let mut plain = PlainRun::new(alloc, scene)?;
-    let mut run = Dyn::new(alloc, &shapes, drift)?;
     let mut tests = Steps::<L>::new(blank);
-    let mut snap = Snapshot::new(alloc, scene.clumps.len() as u32)?;
-    let mut waiting = near_list(alloc, &shapes, &run, &mut snap, drift, PairList::empty(alloc))?;
-    let mut report = Report::new(drift, waiting.len());
-    for _ in 0..scene.steps {
-        if is_due(&run, &waiting, &report) {
-            if !may_take(&run, &waiting, drift) {
-                report.same = false;
-                break;
-            }
-            report.note_list(run.now().saturating_sub(waiting.from()));
-            let buffer = take(&mut run, waiting)?;
-            advance(&shapes, &mut plain, &mut run, &mut tests, &mut report)?;
-            waiting = near_list(alloc, &shapes, &run, &mut snap, drift, buffer)?;
-        } else {
-            advance(&shapes, &mut plain, &mut run, &mut tests, &mut report)?;
-        }
-        if report.is_over() {
+    let mut report = Report::new(drift);
+    for _ in 0..shapes.scene().steps {
+        one_list(alloc, shapes, plain, run, &mut tests, &mut report)?;
+        if report.is_over() || run.now() >= shapes.scene().steps {
             break;
         }
     }
     Ok(report)
+}
+
+/// Makes a list, steps on the list before until the new one has the age that is wanted or the old one is too old, takes the new one
+/// into use, and makes one step on it.
+fn one_list<L: Ledger>(
+    alloc: Global,
+    shapes: &Shapes,
+    plain: &mut PlainRun,
+    run: &mut Dyn,
+    tests: &mut Steps<L>,
+    report: &mut Report,
+) -> Result<(), OutOfMemory>
+    requires plain { plain.old.scene ≡ shapes.now }
+    requires scene { run.old.scene ≡ shapes.now }
+    requires drift { run.old.drift ≡ report.old.drift }
+    requires small { report.old.drift ≤ 1024 }
+    ensures plain { plain.new.scene ≡ shapes.now }
+    ensures scene { run.new.scene ≡ shapes.now }
+    ensures drift { run.new.drift ≡ report.old.drift }
+    ensures report { report.new.drift ≡ report.old.drift }
+{
+    let list = near_list(alloc, shapes, run, report.drift)?;
+    for _ in 0..report.wanted_age() {
+        advance(shapes, plain, run, tests, report)?;
+    }
+    take(run, list, report)?;
+    advance(shapes, plain, run, tests, report)
 }

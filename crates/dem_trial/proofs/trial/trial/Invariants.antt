@@ -1,4 +1,4 @@
 use Rattle.dem_trial.proofs.trial.trial.Given as goal
 
-abbrev pub ghosts-trial_counted : goal.ghosts-trial_counted
-ghosts-trial_counted a = record { name = a.blank.name; parts = a.blank.parts }
+abbrev pub ghosts-side_by_side : goal.ghosts-side_by_side
+ghosts-side_by_side a = record { name = a.blank.name; parts = a.blank.parts }

@@ -175,16 +175,20 @@ impl<'s> Dyn<'s> {
     pub fn can_step(&self) -> bool
         ensures { (result ≡ true) ↔ CanStep self.now }
     {
-        self.listed
-            && self.step - self.contacts.list().from() <= self.drift
-            && self.step < self.shapes.scene().steps
+        match self.list_from() {
+            Some(from) => {
+                is_in_time(from, self.now(), self.drift())
+                    && self.now() < self.shapes().scene().steps
+            }
+            None => false,
+        }
     }
 
     /// Whether a list isn't from later than where the run stands, and not older than the drift limit.
     pub fn can_adopt(&self, list: &PairList) -> bool
         ensures { (result ≡ true) ↔ IsInTime self.now list.now.from }
     {
-        list.from() <= self.step && self.step - list.from() <= self.drift
+        is_in_time(list.from(), self.now(), self.drift())
     }
 
     /// The near list of a snapshot of the plain run may be taken into use while it is in time. A law: it does nothing.
@@ -192,8 +196,7 @@ impl<'s> Dyn<'s> {
         requires snapshot { IsSnapshotOfRun self.now.scene snap.now }
         requires near { IsNearListOf self.now.scene self.now.drift snap.now list.now }
         ensures { IsListOfRun self.now.scene self.now.drift list.now }
-    {
-    }
+    {}
 
     /// The step that the list in use was made from; None where none was taken into use.
     pub fn list_from(&self) -> Option<u32>
@@ -225,6 +228,13 @@ impl<'s> Dyn<'s> {
     {
         &self.contacts
     }
+}
+
+/// Whether a step isn't later than now, and no farther back than so many steps.
+fn is_in_time(from: u32, now: u32, drift: u32) -> bool
+    ensures { (result ≡ true) ↔ (from ≤ now × now ≤ from + drift) }
+{
+    from <= now && now - from <= drift
 }
 
 /// Makes room for this many entries, and takes none away.

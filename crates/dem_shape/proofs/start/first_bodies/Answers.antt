@@ -3,7 +3,7 @@ use Rattle.std.proofs.lemmas.List.{take_all}
 use Rattle.dem_model.specs.SceneValue.{SceneValue}
 use Rattle.dem_model.specs.Plain.{first_state}
 use Rattle.dem_model.specs.declared.state.Clump.{Clump}
-use Rattle.dem_plain.proofs.plain_run.first_bodies.Goals as goal
+use Rattle.dem_shape.proofs.start.first_bodies.Goals as goal
 
 pub returns : goal.returns
 unfolding first_state

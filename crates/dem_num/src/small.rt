@@ -1,10 +1,12 @@
-//! Sums, products and floors at 64 bits, each with the size that its callers bound theirs by.
+//! Sums, products and floors at 64 bits, each with the size that its callers bound theirs by, and wide numbers that fit 64 bits.
 
 ghost use Rattle.std.specs.Prelude.{◌≡◌, ◌+◌, ◌-◌, ◌*◌, ◌/◌, ◌^◌, ◌<◌, ◌≤◌, ◌+ℤ◌, ◌-ℤ◌, ◌*ℤ◌, unsigned_abs};
-ghost use Rattle.dem_num.specs.Numbers.{shifted};
+ghost use Rattle.dem_num.specs.Numbers.{AtMost, shifted};
 ghost use Rattle.dem_num.specs.Vectors.{widened, sum_of, difference_of, Within};
 
-use dem_num::Vec3;
+use crate::axes::{narrow3, widen};
+use crate::operators::narrow;
+use crate::vector::{Vec3, Wide3};
 
 /// The product of two numbers.
 pub fn mul_short(a: i64, b: i64) -> i64
@@ -34,7 +36,7 @@ pub fn sub_short(a: i64, b: i64) -> i64
 }
 
 /// The floor of `x / 2^k`.
-#[tactic(auto, unfolding(dem_num::specs::Numbers::shifted))]
+#[tactic(auto, unfolding(crate::specs::Numbers::shifted))]
 pub fn sh_short(x: i64, k: u32) -> i64
     requires { k ≤ 62 }
     ensures value { result ≡ shifted x k }
@@ -67,4 +69,20 @@ pub fn sub3_short(a: Vec3, b: Vec3) -> Vec3
         y: sub_short(a.y, b.y),
         z: sub_short(a.z, b.z),
     }
+}
+
+/// The same number, which is known to fit 64 bits: a product made of it is short.
+pub fn short(x: i128) -> i128
+    requires { AtMost x (2 ^ 62) }
+    ensures { result ≡ x }
+{
+    narrow(x) as i128
+}
+
+/// The same vector, which is known to fit 64 bits: products made of it are short.
+pub fn short3(a: Wide3) -> Wide3
+    requires { Within a (2 ^ 62) }
+    ensures { result ≡ a }
+{
+    widen(narrow3(a))
 }

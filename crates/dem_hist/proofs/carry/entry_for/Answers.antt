@@ -4,7 +4,7 @@ use Rattle.dem_model.specs.declared.state.Pair.{Pair}
 use Rattle.dem_list.specs.Ascending.{pair_cmp}
 use Rattle.dem_list.proofs.AscendingFacts.{same_pair-equal}
 use Rattle.dem_hist.proofs.CarryFacts.{pair_cmp-after, entry-here, entry-nowhere}
-use Rattle.dem_hist.proofs.carry.entry_of.Goals as goal
+use Rattle.dem_hist.proofs.carry.entry_for.Goals as goal
 
 pub returns-then-at-len : goal.returns-then-at-len
 returns-then-at-len c =

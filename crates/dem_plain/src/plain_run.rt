@@ -9,8 +9,8 @@ ghost use Rattle.dem_plain.specs.Run.{AreStored, StepsPlain, IsAfter};
 use crate::advancing::advanced;
 use crate::met::all_met;
 use crate::stop::Stop;
-use dem_model::{Body, List, OutOfMemory, Scene, State};
-use dem_shape::{Centers, Shapes};
+use dem_model::{List, OutOfMemory, Scene, State};
+use dem_shape::{Centers, Shapes, first_bodies};
 use std::alloc::Global;
 use std::marker::Model;
 
@@ -81,17 +81,6 @@ impl<'s> PlainRun<'s> {
         let _scene = self.shapes.scene();
         &self.state
     }
-}
-
-/// The bodies of the clumps at the start.
-pub fn first_bodies(alloc: Global, scene: &Scene) -> Result<List<Body>, OutOfMemory>
-    ensures { IfOk result (λ bodies. bodies ≡ (first_state scene.now).bodies) }
-{
-    let mut bodies = List::new(alloc);
-    for clump in scene.clumps.as_slice() {
-        bodies.push(clump.body)?;
-    }
-    Ok(bodies)
 }
 
 /// The state after a state, or the limit that its step passes.

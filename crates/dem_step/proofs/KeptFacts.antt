@@ -19,7 +19,7 @@ use Rattle.dem_model.specs.declared.state.Body.{Body}
 use Rattle.dem_model.specs.declared.state.Held.{Held}
 use Rattle.dem_model.specs.declared.state.Pair.{Pair}
 use Rattle.dem_model.specs.declared.state.State.{State}
-use Rattle.dem_model.proofs.CountFacts.{pair_count}
+use Rattle.dem_model.specs.Counts.{pair_count}
 use Rattle.dem_shape.specs.declared.snapshot.Snapshot.{Snapshot}
 use Rattle.dem_list.specs.Ascending.{Pairs, IsAscending}
 use Rattle.dem_list.proofs.AscendingFacts.{IsAscending-none}

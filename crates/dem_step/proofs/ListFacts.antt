@@ -21,7 +21,8 @@ use Rattle.dem_model.specs.declared.state.Body.{Body}
 use Rattle.dem_model.specs.declared.state.Held.{Held}
 use Rattle.dem_model.specs.declared.state.Pair.{Pair}
 use Rattle.dem_model.specs.declared.state.State.{State}
-use Rattle.dem_model.proofs.CountFacts.{pair_count, pair_count-append, pair_count-all}
+use Rattle.dem_model.proofs.CountFacts.{pair_count-append, pair_count-all}
+use Rattle.dem_model.specs.Counts.{pair_count}
 use Rattle.dem_plain.specs.Run.{AreStored}
 use Rattle.dem_list.proofs.AscendingFacts.{same_pair-equal}
 use Rattle.dem_hist.proofs.CarryFacts.{kept_of-cons, same_pair-itself}

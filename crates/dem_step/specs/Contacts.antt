@@ -9,7 +9,7 @@ use Rattle.dem_model.specs.Step.{held_at}
 use Rattle.dem_model.specs.declared.state.Held.{Held}
 use Rattle.dem_model.specs.declared.state.Pair.{Pair}
 use Rattle.dem_model.specs.declared.state.State.{State}
-use Rattle.dem_model.proofs.CountFacts.{pair_count, most_pairs}
+use Rattle.dem_model.specs.Counts.{pair_count, most_pairs}
 use Rattle.dem_list.specs.Ascending.{IsAscending}
 use Rattle.dem_hist.specs.Carrying.{HeldByPlace}
 

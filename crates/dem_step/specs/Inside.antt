@@ -14,7 +14,7 @@ use Rattle.dem_model.specs.declared.law.Load.{Load}
 use Rattle.dem_model.specs.declared.state.Body.{Body}
 use Rattle.dem_model.specs.declared.state.Held.{Held}
 use Rattle.dem_model.specs.declared.state.Pair.{Pair}
-use Rattle.dem_model.proofs.LoadFacts.{loads_with}
+use Rattle.dem_model.specs.Step.{loads_with}
 use Rattle.dem_hist.specs.Carrying.{HeldByPlace}
 use Rattle.dem_step.specs.Contacts.{AreContacts, held_by, IsHeldIn}
 use Rattle.dem_step.specs.Stepper.{IsListOfRun, state_at}

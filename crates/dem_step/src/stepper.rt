@@ -21,12 +21,12 @@ ghost use Rattle.dem_step.specs.Stepper.{
 use crate::advancing::advance_all;
 use crate::meeting::meet_all;
 use crate::spheres::Spheres;
+use dem_force::no_loads;
 use dem_hist::Contacts;
 use dem_list::PairList;
 use dem_model::{Body, End, List, Load, OutOfMemory, Steps};
 use dem_num::Vec3;
-use dem_plain::{first_bodies, no_loads};
-use dem_shape::{Shapes, Snapshot};
+use dem_shape::{Shapes, Snapshot, first_bodies};
 use std::alloc::Global;
 use std::marker::Model;
 use std::sync::ledger::Ledger;

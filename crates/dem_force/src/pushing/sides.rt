@@ -18,7 +18,7 @@ ghost use Rattle.dem_model.specs.Step.{
   second_side_of,
   push_of,
 };
-ghost use Rattle.dem_model.specs.declared.limits.TheConstants.{MAX_MASS};
+ghost use Rattle.dem_model.specs.declared.limits.TheConstants.{MAX_MASS, MAX_DISPLACEMENT};
 ghost use Rattle.dem_shape.specs.Pose.{IsPose};
 
 use crate::pushing::law::contact;
@@ -154,7 +154,7 @@ pub fn push_between(shapes: &Shapes, bodies: &[Body], pair: Pair, touch: Touch, 
     requires pair { IsPair shapes.now pair }
     requires sound { AreSound shapes.now bodies.now }
     requires touch { IsTouch touch }
-    requires stored { Within (widened h) (2 ^ 40) }
+    requires stored { Within (widened h) MAX_DISPLACEMENT }
     ensures value { result ≡ push_of shapes.now bodies.now pair touch h }
     ensures size { IsSmall result }
 {

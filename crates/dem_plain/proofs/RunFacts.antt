@@ -31,11 +31,12 @@ use Rattle.dem_force.specs.Places.{HasPlaces}
 use Rattle.dem_force.specs.Sides.{AreSides}
 use Rattle.dem_force.specs.declared.pushing.spheres.Spheres.{Spheres}
 use Rattle.dem_plain.specs.declared.met.Met.{Met}
-use Rattle.dem_plain.specs.Run.{AreStored}
 use Rattle.dem_plain.specs.Inside.{Advances, Holds, IsAfter, IsNext, IsRun}
 use Rattle.dem_plain.specs.declared.stop.Stop.{Stop}
 use Rattle.dem_plain.specs.declared.stop.Stop.TheVariants.{Ended, OutOfMemory}
 use Rattle.dem_model.specs.Spheres.{spheres_of}
+use Rattle.dem_model.specs.declared.limits.TheConstants.{MAX_DISPLACEMENT}
+use Rattle.dem_force.specs.Stored.{AreStored}
 
 -- some bodies in front of a result
 abbrev pub with_front : List Body → Result (List Body) End → Result (List Body) End
@@ -139,7 +140,7 @@ advanced_all s step bodies loads k next e h =
 -- what is held of small pushes is within its range
 pub stored_from : (ms : List Meeting) → All (λ (m : Meeting). IsSmall m.push) ms → AreStored (map held_in ms)
 unfolding held_in
-stored_from ms small = All-map (λ (e : Held). Within (widened e.h) (2 ^ 40)) held_in ms (λ k d lt. (small k d lt).h)
+stored_from ms small = All-map (λ (e : Held). Within (widened e.h) MAX_DISPLACEMENT) held_in ms (λ k d lt. (small k d lt).h)
 
 -- the plain step is the step of all meetings
 step_is : (s : SceneValue) (st : State) (met : Met) (r : Result (List Body) End) (centers : List Vec3) → centers ≡ centers_of s st.bodies →
@@ -274,7 +275,7 @@ run_first s shapes spheres bodies held same sound room e none =
       room = room;
       plain = plain_first shapes ∙ ap Some (sym (first_is shapes bodies held here none));
       bodies = subst (AreSound shapes) (sym here) (first_sound shapes sound);
-      held = subst AreStored (sym none) (All-nil (λ (x : Held). Within (widened x.h) (2 ^ 40)));
+      held = subst AreStored (sym none) (All-nil (λ (x : Held). Within (widened x.h) MAX_DISPLACEMENT));
     }
 
 -- the meetings, over the state that their lists are of

@@ -9,7 +9,6 @@
 
 mod advancing;
 mod meeting;
-mod spheres;
 mod stepper;
 #[cfg(test)]
 mod tests;

@@ -21,8 +21,7 @@ ghost use Rattle.dem_step.specs.Stepper.{
 
 use crate::advancing::advance_all;
 use crate::meeting::meet_all;
-use crate::spheres::Spheres;
-use dem_force::no_loads;
+use dem_force::{Spheres, no_loads};
 use dem_hist::Contacts;
 use dem_list::PairList;
 use dem_model::{Body, End, List, Load, OutOfMemory, Steps};

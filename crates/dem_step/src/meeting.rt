@@ -1,4 +1,4 @@
-//! The meetings of a step on a list: each pair of the list once, and no other.
+//! The meetings of a step on a list, pair by pair.
 
 ghost use Rattle.std.specs.Prelude.{◌≡◌, ◌+◌, ◌^◌, ◌<◌, ◌≤◌, length, All, IfSome, replicate};
 ghost use Rattle.dem_num.specs.Vectors.{widened, Within};

@@ -115,9 +115,10 @@ fn started<'s>(alloc: Global, shapes: &'s Shapes<'s>, drift: u32) -> Result<Dyn<
     requires { drift ≤ MAX_DRIFT }
 {
     let mut run = Dyn::new(alloc, shapes, drift)?;
+    let shapes = run.shapes();
     let mut snap = Snapshot::new(alloc, shapes.scene().clumps.len() as u32)?;
     run.snapshot_into(&mut snap);
-    match build_all(alloc, shapes, &snap, drift, PairList::empty(alloc)) {
+    match build_all(alloc, shapes, &snap, run.drift(), PairList::empty(alloc)) {
         Ok(list) => {
             run.list_of_run(&snap, &list);
             if run.can_adopt(&list) && run.adopt(list).is_err() {
@@ -134,7 +135,6 @@ fn step_out<L: Ledger>(run: &mut Dyn, blank: Blank)
     requires name { blank.name ≡ L.name }
     requires parts { blank.parts ≡ L.parts }
     requires some { 0 < L.parts }
-    ensures { run.new.scene ≡ run.old.scene }
 {
     let mut tests = Steps::<L>::new(blank);
     for _ in 0..10 {

@@ -4,8 +4,8 @@ use Rattle.std.specs.Io.KnownBytes.{Appends, Keeps}
 use Rattle.std.specs.declared.alloc.Global.{Global}
 use Rattle.std.specs.declared.string.String.{String}
 use Rattle.dem_outside.specs.Faults.{Rose}
-use Rattle.dem_outside.specs.Known.{AppendsFront}
-use Rattle.dem_outside.proofs.Fronts.{AppendsFront-nil, AppendsFront-kept}
+use Rattle.dem_outside.specs.Known.{AppendsPrefix}
+use Rattle.dem_outside.proofs.Prefixes.{AppendsPrefix-nil, AppendsPrefix-kept}
 use Rattle.dem_model.specs.ReadingFaults.{fault_text}
 use Rattle.dem_model.specs.declared.state.Last.{Last}
 use Rattle.dem_model.specs.declared.state.Last.TheVariants.{Done, Passed}
@@ -24,8 +24,8 @@ ForLeft-any None P f = ([], f [])
 ForLeft-any (Some bytes) P f = f bytes
 
 -- a sink that kept what it held gained a prefix of any text
-front-kept : (old new : Option (List ℕ)) (text : List ℕ) → Keeps old new → AppendsFront old new text
-front-kept old new text kept = AppendsFront-kept old old new text (AppendsFront-nil old text) kept
+front-kept : (old new : Option (List ℕ)) (text : List ℕ) → Keeps old new → AppendsPrefix old new text
+front-kept old new text kept = AppendsPrefix-kept old old new text (AppendsPrefix-nil old text) kept
 
 -- bad words deserve the usage line
 pub verdict-bad : (words : List (String Global)) (bytes : List ℕ) → asks_plain words ≡ false → verdict_of words bytes ≡ Usage
@@ -54,26 +54,26 @@ module _ (words : List (String Global)) (left rest : Option (List ℕ)) (reads r
   answered (Err stops.Usage) answer does tells =
       ⊎_elim
       (λ (put : (answer ≡ answers.Usage) × Appends note note_now usage_text × (notes_now ≡ notes)). subst Whole (sym put.0) (does.0, does.1, put.1, (does.2, does.3, put.2)))
-      (λ (failed : (answer ≡ answers.WriteFailed) × AppendsFront note note_now usage_text × Rose notes notes_now).
+      (λ (failed : (answer ≡ answers.WriteFailed) × AppendsPrefix note note_now usage_text × Rose notes notes_now).
       subst Whole (sym failed.0)
       (not-told usage_text does.1
-      (ForLeft-any left (PutsFront words note note_now) (λ bytes. subst (λ v. AppendsFront note note_now (note_text v)) (sym (verdict-bad words bytes does.0)) failed.1)) failed.2))
+      (ForLeft-any left (PutsFront words note note_now) (λ bytes. subst (λ v. AppendsPrefix note note_now (note_text v)) (sym (verdict-bad words bytes does.0)) failed.1)) failed.2))
       tells
   answered (Err (stops.Refused fault)) answer does tells =
       ⊎_elim
       (λ (put : (answer ≡ answers.Refused) × Appends note note_now (fault_text fault) × (notes_now ≡ notes)).
       subst Whole (sym put.0)
       (ForLeft-weaker left (λ bytes. verdict_of words bytes ≡ Refused fault) (PutsFault words note note_now) (λ bytes v. record { fault = fault; deserved = v; put = put.1 }) does.0, does.1, (does.2, does.3, put.2)))
-      (λ (failed : (answer ≡ answers.WriteFailed) × AppendsFront note note_now (fault_text fault) × Rose notes notes_now).
+      (λ (failed : (answer ≡ answers.WriteFailed) × AppendsPrefix note note_now (fault_text fault) × Rose notes notes_now).
       subst Whole (sym failed.0)
       (not-told (fault_text fault) does.1
-      (ForLeft-weaker left (λ bytes. verdict_of words bytes ≡ Refused fault) (PutsFront words note note_now) (λ bytes v. subst (λ w. AppendsFront note note_now (note_text w)) (sym v) failed.1) does.0)
+      (ForLeft-weaker left (λ bytes. verdict_of words bytes ≡ Refused fault) (PutsFront words note note_now) (λ bytes v. subst (λ w. AppendsPrefix note note_now (note_text w)) (sym v) failed.1) does.0)
       failed.2))
       tells
   answered (Err stops.ReadFailed) answer does tells =
       ⊎_elim
       (λ (put : (answer ≡ answers.ReadFailed) × Appends note note_now read_failed_text × (notes_now ≡ notes)). subst Whole (sym put.0) (does.0, does.1, does.2, put.1, does.3, put.2))
-      (λ (failed : (answer ≡ answers.WriteFailed) × AppendsFront note note_now read_failed_text × Rose notes notes_now).
+      (λ (failed : (answer ≡ answers.WriteFailed) × AppendsPrefix note note_now read_failed_text × Rose notes notes_now).
       subst Whole (sym failed.0)
       (inr failed.2, ForLeft-any left (WritesFront words held now) (λ bytes. front-kept held now (out_text (verdict_of words bytes)) does.2), inr (does.1, failed.1)))
       tells

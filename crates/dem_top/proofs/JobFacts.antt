@@ -5,8 +5,8 @@ use Rattle.std.specs.Io.KnownBytes.{Consumes, IsAtEnd}
 use Rattle.std.proofs.KnownBytes.{Keeps-refl}
 use Rattle.std.specs.declared.alloc.Global.{Global}
 use Rattle.std.specs.declared.string.String.{String}
-use Rattle.dem_outside.specs.Known.{AppendsFront}
-use Rattle.dem_outside.proofs.Fronts.{AppendsFront-nil}
+use Rattle.dem_outside.specs.Known.{AppendsPrefix}
+use Rattle.dem_outside.proofs.Prefixes.{AppendsPrefix-nil}
 use Rattle.dem_model.specs.SceneValue.{SceneValue}
 use Rattle.dem_model.specs.Output.{output_of}
 use Rattle.dem_model.specs.ReadingScene.{scene_from}
@@ -72,7 +72,7 @@ module _ (words : List (String Global)) (left rest : Option (List ℕ)) (reads r
   pub scene-refused : (held : Option (List ℕ)) (puts : ℕ) (fault : SceneFault) → Fails fault (scene_from read) → Does words left rest reads reads_now held held puts puts (Err (scene_stop fault))
   scene-refused held puts scenes.OutOfMemory fails = (
     good,
-    ForLeft-weaker left (λ bytes. scene_from bytes ≡ scene_from read) (WritesFront words held held) (λ bytes _. AppendsFront-nil held (out_text (verdict_of words bytes)))
+    ForLeft-weaker left (λ bytes. scene_from bytes ≡ scene_from read) (WritesFront words held held) (λ bytes _. AppendsPrefix-nil held (out_text (verdict_of words bytes)))
         (same-scene left rest read all ends),
     same_count,
     refl,
@@ -80,10 +80,10 @@ module _ (words : List (String Global)) (left rest : Option (List ℕ)) (reads r
   scene-refused held puts fault fails = (verdicts (Err fault) fails, Keeps-refl held, same_count, refl)
 
   -- a prefix of the scene's output is one of what is deserved
-  fronts : (held now : Option (List ℕ)) (s : SceneValue) → scene_from read ≡ Ok s → AppendsFront held now (output_of s) → ForLeft left (WritesFront words held now)
+  fronts : (held now : Option (List ℕ)) (s : SceneValue) → scene_from read ≡ Ok s → AppendsPrefix held now (output_of s) → ForLeft left (WritesFront words held now)
   fronts held now s is front =
       ForLeft-weaker left (λ bytes. verdict_of words bytes ≡ Runs s) (WritesFront words held now)
-      (λ bytes v. subst (λ w. AppendsFront held now (out_text w)) (sym v) front) (verdicts (Ok s) is)
+      (λ bytes v. subst (λ w. AppendsPrefix held now (out_text w)) (sym v) front) (verdicts (Ok s) is)
 
   -- the run stopped
   pub run-stopped : (held now : Option (List ℕ)) (puts puts_now : ℕ) (s : SceneValue) (fault : RunFault) → scene_from read ≡ Ok s → WritesRun s held now puts puts_now (Err fault)

@@ -6,11 +6,11 @@
 //! Takes memory: `main_call`. Not here: the streams of the process (dem).
 #![tactic(auto)]
 
-mod answer;
-mod command;
-mod job;
+mod outcome;
+mod plain;
 mod reading;
-mod running;
+mod refusal;
+mod status;
 mod top;
 
 pub use top::main_call;

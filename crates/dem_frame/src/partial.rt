@@ -19,29 +19,29 @@ pub enum FrameFault {
 
 /// What was read of a frame.
 #[derive(Drop)]
-pub(crate) struct Front {
+pub(crate) struct PartialFrame {
     pub step: Option<u32>,
     pub bodies: List<Body>,
     pub held: List<Held>,
 }
 
-ghost use Rattle.dem_frame.specs.Fronts.{last_of};
+ghost use Rattle.dem_frame.specs.PartialFrames.{last_held};
 
 // The last pair, if there is one.
 fn last(held: &List<Held>) -> Option<Held>
-    ensures { result ≡ last_of held.now }
+    ensures { result ≡ last_held held.now }
 {
     held.as_slice().last().copied()
 }
 
-impl Front {
-    ghost use Rattle.dem_frame.specs.Fronts.{first_front, with_body, with_record, whole_frame};
+impl PartialFrame {
+    ghost use Rattle.dem_frame.specs.PartialFrames.{nothing_read, with_body, with_record, whole_frame};
 
     /// Nothing was read yet.
-    pub(crate) fn new(alloc: Global) -> Front
-        ensures { result ≡ first_front }
+    pub(crate) fn new(alloc: Global) -> PartialFrame
+        ensures { result ≡ nothing_read }
     {
-        Front {
+        PartialFrame {
             step: None,
             bodies: List::new(alloc),
             held: List::new(alloc),
@@ -56,7 +56,7 @@ impl Front {
     }
 
     // A clump's record while clumps are missing, and then a pair's.
-    #[tactic(auto, unfolding(crate::specs::Fronts::with_body))]
+    #[tactic(auto, unfolding(crate::specs::PartialFrames::with_body))]
     fn take_body(&mut self, row: &ByteRecord, clumps: u32) -> Result<bool, OutOfMemory>
         ensures { IfOk result (λ good. with_body clumps self.old (fields_of row.now) ≡ (if good then Some self.new else None)) }
     {
@@ -75,7 +75,7 @@ impl Front {
     }
 
     /// Adds what the record says, and answers whether a good frame has it there.
-    #[tactic(auto, unfolding(crate::specs::Fronts::with_head))]
+    #[tactic(auto, unfolding(crate::specs::PartialFrames::with_head))]
     pub(crate) fn take(&mut self, row: &ByteRecord, clumps: u32) -> Result<bool, OutOfMemory>
         ensures { IfOk result (λ good. with_record clumps self.old (fields_of row.now) ≡ (if good then Some self.new else None)) }
     {
@@ -90,7 +90,7 @@ impl Front {
     }
 
     /// The state, where neither the head nor a clump is missing.
-    #[tactic(auto, unfolding(crate::specs::Fronts::whole_frame))]
+    #[tactic(auto, unfolding(crate::specs::PartialFrames::whole_frame))]
     pub(crate) fn finish(self, clumps: u32) -> Option<State>
         ensures { result ≡ whole_frame clumps self }
     {

@@ -4,8 +4,8 @@ ghost use Rattle.dem_outside.specs.Faults.{Counts};
 ghost use Rattle.dem_outside.specs.Known.{PutAppends};
 ghost use Rattle.dem_model.specs.Output.{is_due as is_due_of};
 ghost use Rattle.dem_model.specs.Frames.{last_text};
-ghost use Rattle.dem_top.specs.Running.{due_text, Steps, WritesRun};
-ghost use Rattle.dem_top.specs.declared.running.RunFault.TheVariants as faults;
+ghost use Rattle.dem_output.specs.Running.{due_text, Steps, WritesRun};
+ghost use Rattle.dem_output.specs.declared.running.RunFault.TheVariants as faults;
 
 use dem_frame::{WriteFault, write_end, write_state};
 use dem_model::{End, Last, OutOfMemory, Scene, State};
@@ -15,7 +15,7 @@ use std::alloc::Global;
 
 /// Why a run stopped before its output was written.
 #[derive(Clone, Copy, PartialEq, Debug)]
-pub(crate) enum RunFault {
+pub enum RunFault {
     WriteFault,
     OutOfMemory,
 }
@@ -37,7 +37,7 @@ impl From<OutOfMemory> for RunFault {
 }
 
 /// Makes the plain run of a scene and writes its output; answers how the run ended.
-pub(crate) fn write_run<K: Sink>(
+pub fn write_run<K: Sink>(
     alloc: Global,
     scene: &Scene,
     out: &mut K,

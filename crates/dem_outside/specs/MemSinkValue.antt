@@ -4,7 +4,7 @@ use Rattle.dem_outside.specs.Faults.{next_of}
 use Rattle.dem_outside.specs.declared.mem_sink.Fail.{Fail}
 
 -- a sink over memory, as callers see it
-pub record Puts : Type 0 where
+pub record MemSinkValue : Type 0 where
   -- the bytes that it holds
   pub held : List ℕ
   -- how many bytes it may hold
@@ -16,30 +16,30 @@ pub record Puts : Type 0 where
   pub faults : ℕ
 
 -- the failure that the next put was told of, if any: the first entry with its number
-abbrev pub failure_of : Puts → Option Fail
+abbrev pub failure_of : MemSinkValue → Option Fail
 failure_of s = find (λ f. f.call == next_of s.made) s.fails
 
 -- how many more bytes the sink may hold
-abbrev pub left_in : Puts → ℕ
+abbrev pub left_in : MemSinkValue → ℕ
 left_in s = s.room - length s.held
 
 -- how many bytes of a piece of this length a put takes that was told of this failure
-abbrev pub front_of : Puts → Option Fail → ℕ → ℕ
-front_of s (Some f) n = min (min f.take n) (left_in s)
-front_of s None n = if nat_le n (left_in s) then n else 0
+abbrev pub prefix_of : MemSinkValue → Option Fail → ℕ → ℕ
+prefix_of s (Some f) n = min (min f.take n) (left_in s)
+prefix_of s None n = if nat_le n (left_in s) then n else 0
 
 -- how many bytes of this piece the next put takes
-abbrev pub taken_of : Puts → List ℕ → ℕ
-taken_of s piece = front_of s (failure_of s) (length piece)
+abbrev pub taken_of : MemSinkValue → List ℕ → ℕ
+taken_of s piece = prefix_of s (failure_of s) (length piece)
 
 -- the next put is Ok: no failure was told of it, and there is room
-abbrev pub TakesNext : Puts → List ℕ → Type 0
+abbrev pub TakesNext : MemSinkValue → List ℕ → Type 0
 TakesNext s piece = IsNone (failure_of s) × (length piece ≤ left_in s)
 
 -- the sink after a put that took the whole piece
-abbrev pub after_put : Puts → List ℕ → Puts
+abbrev pub after_put : MemSinkValue → List ℕ → MemSinkValue
 after_put s piece = record s { held = s.held ++ piece; made = next_of s.made }
 
 -- the sink after a put that failed
-abbrev pub after_fault : Puts → List ℕ → Puts
+abbrev pub after_fault : MemSinkValue → List ℕ → MemSinkValue
 after_fault s piece = record s { held = s.held ++ take (taken_of s piece) piece; made = next_of s.made; faults = next_of s.faults }

@@ -1,6 +1,4 @@
-pub mod RunLaw
-pub mod RunFacts
-pub mod LoopFacts
+pub mod LeftFacts
+pub mod SceneFacts
 pub mod JobFacts
 pub mod AnswerFacts
-pub mod PromiseFacts

@@ -8,8 +8,8 @@ use crate::reading::ReadFault;
 use crate::refusal::{Refusal, put_line, refuse};
 use crate::status::{OUT_OF_MEMORY, READ_FAILED, WRITE_FAILED};
 use dem_model::Last;
-use dem_outside::Sink;
 use dem_output::RunFault;
+use dem_outside::Sink;
 use dem_scene::SceneFault;
 
 /// How a job ended that was done.

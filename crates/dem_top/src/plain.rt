@@ -7,8 +7,8 @@ ghost use Rattle.dem_top.specs.Parts.{DoesQuietly};
 
 use crate::outcome::{NotDone, Outcome};
 use crate::reading::read_one_scene;
-use dem_outside::{Sink, Source};
 use dem_output::write_run;
+use dem_outside::{Sink, Source};
 use std::alloc::Global;
 
 /// Reads a scene and writes its output.

@@ -4,7 +4,7 @@ ghost use Rattle.dem_outside.specs.Change.{change};
 ghost use Rattle.dem_top.specs.Refusals.{refusal_text, refusal_status as refusal_status_of};
 ghost use Rattle.dem_top.specs.Parts.{PutsLine};
 
-use crate::status::{WRITE_FAILED};
+use crate::status::WRITE_FAILED;
 use dem_outside::{Failed, Sink};
 use dem_scene::{SceneFault, fault_line};
 

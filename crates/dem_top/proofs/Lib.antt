@@ -2,3 +2,4 @@ pub mod LeftFacts
 pub mod SceneFacts
 pub mod JobFacts
 pub mod AnswerFacts
+pub mod StreamFacts

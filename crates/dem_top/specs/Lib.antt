@@ -3,3 +3,4 @@ pub mod Jobs
 pub mod Answers
 pub mod Refusals
 pub mod Parts
+pub mod Streams

@@ -11,8 +11,10 @@ mod plain;
 mod reading;
 mod refusal;
 mod status;
+mod streams;
 mod top;
 
+pub use streams::{Served, Writers, stream_call};
 pub use top::main_call;
 
 #[cfg(test)]

@@ -2,9 +2,9 @@ use Rattle.std.proofs.Common.{◌≡◌, ℕ, ◌<◌, ◌≤◌, ap, ◌∙◌,
 use Rattle.std.proofs.lemmas.Result.{err_from_is_err_and}
 use Rattle.dem_model.specs.SceneValue.{SceneValue}
 use Rattle.dem_model.specs.declared.state.State.{State}
-use Rattle.dem_top.proofs.RunFacts.{StandsAt-done, LacksEnd-closed, LacksEnd-failed}
-use Rattle.dem_top.proofs.LoopFacts.{begun, not-begun, goes-on, comes-nearer, comes-to-end, stopped, Rose-from}
-use Rattle.dem_top.proofs.running.write_run.Goals as goal
+use Rattle.dem_output.proofs.RunFacts.{StandsAt-done, LacksEnd-closed, LacksEnd-failed}
+use Rattle.dem_output.proofs.LoopFacts.{begun, not-begun, goes-on, comes-nearer, comes-to-end, stopped, Rose-from}
+use Rattle.dem_output.proofs.running.write_run.Goals as goal
 
 -- the loop's test read the number of the run's state and the steps of the scene
 below : (n : ℕ) (s : SceneValue) (read here : State) → n ≡ s.steps → read ≡ here → read.step < n → here.step < s.steps

@@ -14,8 +14,8 @@ use Rattle.dem_model.specs.declared.state.State.{State}
 use Rattle.dem_model.specs.declared.state.End.{End}
 use Rattle.dem_model.specs.declared.state.Last.{Last}
 use Rattle.dem_model.specs.declared.state.Last.TheVariants.{Done, Passed}
-use Rattle.dem_top.specs.Running.{due_text}
-use Rattle.dem_top.proofs.RunLaw.{by_step, frames_from, last_from, step_of-step, last_of-first, output_of-first}
+use Rattle.dem_output.specs.Running.{due_text}
+use Rattle.dem_output.proofs.RunLaw.{by_step, frames_from, last_from, step_of-step, last_of-first, output_of-first}
 
 -- what is still to be written behind this state
 abbrev pub rest_of : SceneValue → State → List ℕ

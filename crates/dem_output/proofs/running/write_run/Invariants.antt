@@ -1,6 +1,6 @@
 use Rattle.std.proofs.Common.{◌-◌}
-use Rattle.dem_top.proofs.LoopFacts.{RunsOn}
-use Rattle.dem_top.proofs.running.write_run.Given as goal
+use Rattle.dem_output.proofs.LoopFacts.{RunsOn}
+use Rattle.dem_output.proofs.running.write_run.Given as goal
 
 abbrev pub invariant-loop-scene : goal.invariant-loop-scene
 invariant-loop-scene g l =

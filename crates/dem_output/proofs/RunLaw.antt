@@ -14,7 +14,7 @@ use Rattle.dem_model.specs.declared.state.State.{State}
 use Rattle.dem_model.specs.declared.state.End.{End}
 use Rattle.dem_model.specs.declared.state.Last.{Last}
 use Rattle.dem_model.specs.declared.state.Last.TheVariants.{Done, Passed}
-use Rattle.dem_top.specs.Running.{due_text}
+use Rattle.dem_output.specs.Running.{due_text}
 
 -- ---- what is left of a run
 

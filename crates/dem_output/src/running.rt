@@ -4,8 +4,8 @@ ghost use Rattle.dem_outside.specs.Faults.{Counts};
 ghost use Rattle.dem_outside.specs.Known.{PutAppends};
 ghost use Rattle.dem_model.specs.Output.{is_due as is_due_of};
 ghost use Rattle.dem_model.specs.Frames.{last_text};
-ghost use Rattle.dem_top.specs.Running.{due_text, Steps, WritesRun};
-ghost use Rattle.dem_top.specs.declared.running.RunFault.TheVariants as faults;
+ghost use Rattle.dem_output.specs.Running.{due_text, MakesStep, WritesRun};
+ghost use Rattle.dem_output.specs.declared.running.RunFault.TheVariants as faults;
 
 use dem_frame::{WriteFault, write_end, write_state};
 use dem_model::{End, Last, OutOfMemory, Scene, State};
@@ -15,7 +15,7 @@ use std::alloc::Global;
 
 /// Why a run stopped before its output was written.
 #[derive(Clone, Copy, PartialEq, Debug)]
-pub(crate) enum RunFault {
+pub enum RunFault {
     WriteFault,
     OutOfMemory,
 }
@@ -37,11 +37,7 @@ impl From<OutOfMemory> for RunFault {
 }
 
 /// Makes the plain run of a scene and writes its output; answers how the run ended.
-pub(crate) fn write_run<K: Sink>(
-    alloc: Global,
-    scene: &Scene,
-    out: &mut K,
-) -> Result<Last, RunFault>
+pub fn write_run<K: Sink>(alloc: Global, scene: &Scene, out: &mut K) -> Result<Last, RunFault>
     ensures { WritesRun scene.now (K.held out.old) (K.held out.new) (K.faults out.old) (K.faults out.new) result }
 {
     let mut run = PlainRun::new(alloc, scene)?;
@@ -58,7 +54,7 @@ pub(crate) fn write_run<K: Sink>(
 fn step_on<K: Sink>(scene: &Scene, run: &mut PlainRun, out: &mut K) -> Result<Option<End>, RunFault>
     requires same { run.old.scene ≡ scene.now }
     requires goes_on { run.old.state.step < scene.now.steps }
-    ensures { Steps run.old run.new (K.held out.old) (K.held out.new) (K.faults out.old) (K.faults out.new) result }
+    ensures { MakesStep run.old run.new (K.held out.old) (K.held out.new) (K.faults out.old) (K.faults out.new) result }
 {
     match run.step() {
         Ok(()) => {

@@ -1,10 +1,10 @@
 -- What the standard library's reading makes of a text of digits.
-use Rattle.std.proofs.Common.{◌≡◌, ℕ, ◌<◌, ◌≤◌, ◌^◌, ◌&&◌, Bool, true, false, cond, List, [], ◌∷◌, length, Option, None, Some, Result, Ok, Err, refl, sym, ap, ◌∙◌, ⊎_elim, subst, ⊥, ¬◌, arith, nat_lt, nat_le, ltb-true, le-ltb}
+use Rattle.std.proofs.Common.{◌≡◌, ℕ, ◌<◌, ◌≤◌, ◌^◌, ◌&&◌, Bool, true, false, cond, List, [], ◌∷◌, length, Option, None, Some, Result, Ok, Err, refl, sym, ap, ◌∙◌, ⊎_elim, subst, arith, nat_lt, nat_le, ltb-true, le-ltb}
 use Rattle.std.specs.List.{list_all}
 use Rattle.std.specs.Char.{is_ascii_digit}
 use Rattle.std.specs.Result.{OkIff}
 use Rattle.std.specs.Str.Parse.{ParsesUnsigned, digits_value}
-use Rattle.std.proofs.lemmas.Bool.{leb-true, le-leb, lt-ltb, cases_lt}
+use Rattle.std.proofs.lemmas.Bool.{leb-true, le-leb, lt-leb, cases_lt}
 use Rattle.std.proofs.lemmas.Str.Parse.{IsDigitsTest, numerals_by_value, parse_digits}
 use Rattle.dem_words.specs.Values.{is_numeral, number_from}
 
@@ -23,7 +23,7 @@ tells = record {
 }
 
 past-by : (n high : ℕ) → (n ≤ high → ⊥) → high < n
-past-by n high no = ⊎_elim (λ (lt : high < n). lt) (λ (le : n ≤ high). absurd (no le)) (cases_lt high n)
+past-by n high never-le = ⊎_elim (λ (lt : high < n). lt) (λ (le : n ≤ high). absurd (never-le le)) (cases_lt high n)
 
 never : (b : Bool) → (b && false) ≡ false
 never true = refl

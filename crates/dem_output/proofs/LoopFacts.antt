@@ -14,7 +14,7 @@ use Rattle.dem_model.specs.declared.state.Last.TheVariants.{Passed}
 use Rattle.dem_plain.specs.Run.{Run}
 use Rattle.dem_output.specs.declared.running.RunFault.{RunFault}
 use Rattle.dem_output.specs.declared.running.RunFault.TheVariants.{WriteFault, OutOfMemory}
-use Rattle.dem_output.specs.Running.{due_text, Steps, WritesRun}
+use Rattle.dem_output.specs.Running.{due_text, MakesStep, WritesRun}
 use Rattle.dem_output.proofs.RunLaw.{step_of-step}
 use Rattle.dem_output.proofs.RunFacts.{StandsAt, StandsAt-start, first-failed, StandsAt-more, StandsAt-failed, StandsAt-front, StandsAt-end, LacksEnd, LacksEnd-kept}
 
@@ -43,13 +43,13 @@ not-begun old now s run st new here front =
 
 module _ (old mid now : Option (List ℕ)) (faults faults_mid faults_now : ℕ) (s : SceneValue) (run new : Run) (keeps : RunsOn old mid faults faults_mid s run) (below : run.state.step < s.steps) where
   -- a step was made
-  went-on : (o : Option End) → o ≡ None → Steps run new mid now faults_mid faults_now (Ok o)
+  went-on : (o : Option End) → o ≡ None → MakesStep run new mid now faults_mid faults_now (Ok o)
       → (step_of s run.state ≡ Ok new.state) × (new.scene ≡ s) × Appends mid now (due_text s new.state) × (faults_now ≡ faults_mid)
   went-on None none made =
       (subst (λ x. step_of x run.state ≡ Ok new.state) keeps.scene_is made.0, made.1 ∙ keeps.scene_is, subst (λ x. Appends mid now (due_text x new.state)) keeps.scene_is made.2, made.3)
   went-on (Some e) none made = cc
 
-  pub goes-on : (o : Option End) → o ≡ None → Steps run new mid now faults_mid faults_now (Ok o) → RunsOn old now faults faults_now s new
+  pub goes-on : (o : Option End) → o ≡ None → MakesStep run new mid now faults_mid faults_now (Ok o) → RunsOn old now faults faults_now s new
   goes-on o none made =
       let step = went-on o none made in
       record {
@@ -59,11 +59,11 @@ module _ (old mid now : Option (List ℕ)) (faults faults_mid faults_now : ℕ) 
       }
 
   -- fewer steps are left
-  pub comes-nearer : (o : Option End) → o ≡ None → Steps run new mid now faults_mid faults_now (Ok o) → s.steps - new.state.step < s.steps - run.state.step
+  pub comes-nearer : (o : Option End) → o ≡ None → MakesStep run new mid now faults_mid faults_now (Ok o) → s.steps - new.state.step < s.steps - run.state.step
   comes-nearer o none made = omega (arith, step_of-step s run.state new.state (went-on o none made).0)
 
   -- a step passes a limit
-  pub comes-to-end : (o : Option End) (e : End) → o ≡ Some e → Steps run new mid now faults_mid faults_now (Ok o) → LacksEnd old now s (Passed e) × (faults_now ≡ faults)
+  pub comes-to-end : (o : Option End) (e : End) → o ≡ Some e → MakesStep run new mid now faults_mid faults_now (Ok o) → LacksEnd old now s (Passed e) × (faults_now ≡ faults)
   comes-to-end None e some made = cc
   comes-to-end (Some e') e some made =
       let same : e' ≡ e = cc in
@@ -71,7 +71,7 @@ module _ (old mid now : Option (List ℕ)) (faults faults_mid faults_now : ℕ) 
       (LacksEnd-kept old mid now s (Passed e) (StandsAt-end old mid s run.state e keeps.stands below passed) made.1, made.2 ∙ keeps.count)
 
   -- a fault stops the run
-  pub stopped : (f : RunFault) → Steps run new mid now faults_mid faults_now (Err f) → WritesRun s old now faults faults_now (Err f)
+  pub stopped : (f : RunFault) → MakesStep run new mid now faults_mid faults_now (Err f) → WritesRun s old now faults faults_now (Err f)
   stopped WriteFault made = (
     StandsAt-failed old mid now s run.state new.state keeps.stands below (subst (λ x. step_of x run.state ≡ Ok new.state) keeps.scene_is made.0)
         (subst (λ x. AppendsPrefix mid now (due_text x new.state)) keeps.scene_is made.1),

@@ -20,13 +20,13 @@ unfoldable pub due_text : SceneValue → State → List ℕ
 due_text s st = if is_due s st.step then state_text st else []
 
 -- a step of a run and the frame of the new state, where it is due; or the end, or a fault
-abbrev pub Steps : Run → Run → (held now : Option (List ℕ)) → (faults faults_now : ℕ) → Result (Option End) RunFault → Type 0
-Steps old new held now faults faults_now (Ok None) =
+abbrev pub MakesStep : Run → Run → (held now : Option (List ℕ)) → (faults faults_now : ℕ) → Result (Option End) RunFault → Type 0
+MakesStep old new held now faults faults_now (Ok None) =
     (step_of old.scene old.state ≡ Ok new.state) × (new.scene ≡ old.scene) × Appends held now (due_text old.scene new.state) × (faults_now ≡ faults)
-Steps old new held now faults faults_now (Ok (Some e)) = (step_of old.scene old.state ≡ Err e) × Keeps held now × (faults_now ≡ faults)
-Steps old new held now faults faults_now (Err WriteFault) =
+MakesStep old new held now faults faults_now (Ok (Some e)) = (step_of old.scene old.state ≡ Err e) × Keeps held now × (faults_now ≡ faults)
+MakesStep old new held now faults faults_now (Err WriteFault) =
     (step_of old.scene old.state ≡ Ok new.state) × AppendsPrefix held now (due_text old.scene new.state) × Rose faults faults_now
-Steps old new held now faults faults_now (Err OutOfMemory) = Keeps held now × (faults_now ≡ faults)
+MakesStep old new held now faults faults_now (Err OutOfMemory) = Keeps held now × (faults_now ≡ faults)
 
 -- a whole run: the output and how it ended; or a prefix of the output, and why
 abbrev pub WritesRun : SceneValue → (held now : Option (List ℕ)) → (faults faults_now : ℕ) → Result Last RunFault → Type 0

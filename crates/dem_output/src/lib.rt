@@ -7,4 +7,4 @@
 
 mod running;
 
-pub use running::{RunFault, write_run};
+pub use running::{RunFault, is_due, write_run};

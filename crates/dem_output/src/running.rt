@@ -4,7 +4,7 @@ ghost use Rattle.dem_outside.specs.Faults.{Counts};
 ghost use Rattle.dem_outside.specs.Known.{PutAppends};
 ghost use Rattle.dem_model.specs.Output.{is_due as is_due_of};
 ghost use Rattle.dem_model.specs.Frames.{last_text};
-ghost use Rattle.dem_output.specs.Running.{due_text, Steps, WritesRun};
+ghost use Rattle.dem_output.specs.Running.{due_text, MakesStep, WritesRun};
 ghost use Rattle.dem_output.specs.declared.running.RunFault.TheVariants as faults;
 
 use dem_frame::{WriteFault, write_end, write_state};
@@ -37,11 +37,7 @@ impl From<OutOfMemory> for RunFault {
 }
 
 /// Makes the plain run of a scene and writes its output; answers how the run ended.
-pub fn write_run<K: Sink>(
-    alloc: Global,
-    scene: &Scene,
-    out: &mut K,
-) -> Result<Last, RunFault>
+pub fn write_run<K: Sink>(alloc: Global, scene: &Scene, out: &mut K) -> Result<Last, RunFault>
     ensures { WritesRun scene.now (K.held out.old) (K.held out.new) (K.faults out.old) (K.faults out.new) result }
 {
     let mut run = PlainRun::new(alloc, scene)?;
@@ -58,7 +54,7 @@ pub fn write_run<K: Sink>(
 fn step_on<K: Sink>(scene: &Scene, run: &mut PlainRun, out: &mut K) -> Result<Option<End>, RunFault>
     requires same { run.old.scene ≡ scene.now }
     requires goes_on { run.old.state.step < scene.now.steps }
-    ensures { Steps run.old run.new (K.held out.old) (K.held out.new) (K.faults out.old) (K.faults out.new) result }
+    ensures { MakesStep run.old run.new (K.held out.old) (K.held out.new) (K.faults out.old) (K.faults out.new) result }
 {
     match run.step() {
         Ok(()) => {
@@ -84,9 +80,9 @@ fn write_due<K: Sink>(scene: &Scene, state: &State, out: &mut K) -> Result<(), W
     }
 }
 
-// Whether the frame of state `step` is due.
+/// Whether the frame of state `step` is due: the step is a multiple of `every`, or the last.
 #[tactic(auto, unfolding(dem_model::specs::Output::is_due))]
-fn is_due(scene: &Scene, step: u32) -> bool
+pub fn is_due(scene: &Scene, step: u32) -> bool
     ensures { result ≡ is_due_of scene.now step }
 {
     step % scene.every == 0 || step == scene.steps

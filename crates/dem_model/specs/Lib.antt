@@ -9,6 +9,7 @@ pub mod Mixing
 pub mod Law
 pub mod Advance
 pub mod Step
+pub mod Counts
 pub mod Plain
 pub mod Motion
 pub mod ReadingNames

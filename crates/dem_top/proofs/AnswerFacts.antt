@@ -1,7 +1,7 @@
 -- What a call promises, from what its job did and what was then put on `note`.
 use Rattle.std.proofs.Common.{◌≡◌, ◌≤◌, ℕ, List, [], Option, None, Some, Result, Ok, Err, inl, inr, ◌⊎◌, ⊎_elim, refl, sym, ap, ◌∙◌, subst, append-nil, arith}
 use Rattle.std.specs.Io.KnownBytes.{Appends, Keeps}
-use Rattle.std.proofs.KnownBytes.{Appends-kept, Appends-trans}
+use Rattle.std.proofs.KnownBytes.{Appends-kept, Appends-trans, Keeps-refl, Consumes-nil}
 use Rattle.dem_outside.specs.Faults.{Rose}
 use Rattle.dem_outside.specs.Known.{AppendsPrefix}
 use Rattle.dem_outside.specs.Change.{Stream, Change, IsKept, IsCalm, Fails, Gains, GainsPrefix}
@@ -12,12 +12,13 @@ use Rattle.dem_top.specs.declared.outcome.NotDone.{NotDone}
 use Rattle.dem_top.specs.declared.outcome.NotDone.TheVariants as stops
 use Rattle.dem_top.specs.declared.refusal.Refusal.{Refusal}
 use Rattle.dem_top.specs.declared.refusal.Refusal.TheVariants as refusals
-use Rattle.dem_top.specs.Verdicts.{Verdict, Refused, out_text, MayGain, verdict_status, read_failed_text}
-use Rattle.dem_top.specs.Jobs.{Job, Takes, ReadsWhole, ForTold, ForAllTold, ForLeft, ForAnyLeft}
+use Rattle.dem_top.specs.Verdicts.{Refused, out_text, MayGain, verdict_status, read_failed_text, usage_text}
+use Rattle.dem_top.specs.Jobs.{Job, usage_job, Takes, ReadsWhole, ForTold, ForAllTold, ForLeft, ForAnyLeft}
 use Rattle.dem_top.specs.Answers.{Fulfils, Begins, FailsToRead, IsDone, IsVerdict, IsCutShort, IsUnwritten, Answers}
 use Rattle.dem_top.specs.Refusals.{outcome_status, refusal_status, refusal_text}
-use Rattle.dem_top.specs.Parts.{Does, PutsLine, Tells, idle}
-use Rattle.dem_top.proofs.LeftFacts.{ForTold-weaker}
+use Rattle.dem_top.specs.Parts.{Does, Tells, idle}
+use Rattle.dem_top.proofs.LeftFacts.{ForTold-weaker, ForTold-all}
+use Rattle.dem_top.proofs.JobFacts.{begins-nothing}
 
 -- a stream before one call and after the next
 abbrev pub both : (first second third : Stream) → Change
@@ -300,3 +301,24 @@ module _ (job : Job) (source out : Change) (first second third : Stream) where
       subst (Answers job source out whole) (sym tells.0)
       (answer-no_memory job source out whole taken
       (ForTold-weaker source.before.bytes (Begins job out noted) (Begins job out whole) (λ bytes b. begins-kept bytes tells.1 b) does.0) does.1 does.2 (tells.2 ∙ does.3))
+
+-- ---- words that are no good, and no memory for them
+
+-- nothing was read
+still-takes : (limit : Option ℕ) (source : Stream) → Takes limit (idle source)
+still-takes None source = Keeps-refl source.bytes
+still-takes (Some limit) source = ([], Consumes-nil source.bytes, omega arith)
+
+-- bad words are refused with the usage line
+pub usage-told : (source out before after : Stream) (status : ℕ) → Tells (Err (stops.Refused refusals.Usage)) (between before after) status
+    → Answers usage_job (idle source) (idle out) (between before after) status
+usage-told source out before after status tells =
+    answered usage_job (idle source) (idle out) before before after (Err (stops.Refused refusals.Usage)) status
+    (ForTold-all source.bytes (λ bytes. usage_job.verdict bytes ≡ Refused 1 usage_text) (λ bytes. refl), Keeps-refl out.bytes, Keeps-refl before.bytes, refl, refl, refl) tells
+    (Keeps-refl source.bytes)
+
+-- there was no memory before anything was done
+pub no-words : (job : Job) (source out note : Stream) → Answers job (idle source) (idle out) (idle note) 6
+no-words job source out note =
+    answer-no_memory job (idle source) (idle out) (idle note) (still-takes job.limit source)
+    (ForTold-all source.bytes (Begins job (idle out) (idle note)) (begins-nothing job out note)) refl refl refl

@@ -1,5 +1,5 @@
 -- The scene that a source has, from what was read of it.
-use Rattle.std.proofs.Common.{◌≡◌, ℕ, ◌≤◌, List, length, Ok, Err, sym, ◌∙◌}
+use Rattle.std.proofs.Common.{◌≡◌, ℕ, ◌≤◌, List, length, Ok, Err, ◌∙◌}
 use Rattle.std.specs.Io.KnownBytes.{Consumes, IsAtEnd}
 use Rattle.dem_outside.specs.Change.{Change, IsCalm}
 use Rattle.dem_model.specs.SceneValue.{SceneValue}

@@ -1,13 +1,13 @@
 -- What a call over streams promises, from what the top call did with its sinks and what the buffer passed on.
-use Rattle.std.proofs.Common.{◌≡◌, ◌≤◌, ℕ, zero, suc, List, [], ◌++◌, Option, None, Some, inl, inr, ◌⊎◌, ⊎_elim, refl, sym, ap, ◌∙◌, subst, append-nil, arith}
+use Rattle.std.proofs.Common.{◌≡◌, ◌≤◌, ℕ, zero, suc, List, [], Option, None, Some, inl, inr, ◌⊎◌, ⊎_elim, refl, sym, ap, ◌∙◌, subst, append-nil, arith}
 use Rattle.std.specs.Io.KnownBytes.{Appends, Keeps, append_known}
 use Rattle.std.proofs.KnownBytes.{Appends-kept, Keeps-trans}
 use Rattle.dem_outside.specs.Known.{AppendsPrefix}
 use Rattle.dem_outside.specs.Change.{Change, IsKept, Gains, GainsPrefix}
 use Rattle.dem_outside.proofs.Prefixes.{AppendsPrefix-kept, AppendsPrefix-whole}
-use Rattle.dem_top.specs.Verdicts.{read_failed_text, out_text, MayGain}
+use Rattle.dem_top.specs.Verdicts.{read_failed_text, out_text}
 use Rattle.dem_top.specs.Jobs.{Job, ForTold}
-use Rattle.dem_top.specs.Answers.{Fulfils, Begins, FailsToRead, IsVerdict, IsDone, IsCutShort, IsUnwritten, Answers}
+use Rattle.dem_top.specs.Answers.{Fulfils, Begins, FailsToRead, IsVerdict, IsCutShort, IsUnwritten, Answers}
 use Rattle.dem_top.specs.Streams.{passed, with_rest, Serves}
 use Rattle.dem_top.proofs.LeftFacts.{ForTold-weaker}
 

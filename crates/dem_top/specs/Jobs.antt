@@ -1,10 +1,9 @@
 -- A job, and what is true of the bytes that it was given.
-use Rattle.std.specs.Prelude.{◌≡◌, ℕ, ◌+◌, Bool, true, false, List, [], ◌∷◌, codes, Option, None, Some, ⊤, if◌then◌else◌}
+use Rattle.std.specs.Prelude.{ℕ, ◌+◌, List, Option, None, Some, ⊤}
 use Rattle.std.specs.Io.KnownBytes.{IsAtEnd}
-use Rattle.std.specs.declared.alloc.Global.{Global}
-use Rattle.std.specs.declared.string.String.{String}
-use Rattle.std.specs.String.{string_bytes}
-use Rattle.std.specs.Str.{bytes_eq}
+use Rattle.dem_words.specs.Orders.{OrderValue}
+use Rattle.dem_words.specs.declared.order.Mode.{Mode}
+use Rattle.dem_words.specs.declared.order.Mode.TheVariants as modes
 use Rattle.dem_model.specs.declared.limits.TheConstants.{MAX_TEXT}
 use Rattle.dem_outside.specs.Change.{Change, IsKept, LosesAtMost}
 use Rattle.dem_top.specs.Verdicts.{Verdict, Refused, usage_text, plain_verdict}
@@ -24,16 +23,25 @@ plain_job = record { limit = Some MAX_TEXT; verdict = plain_verdict }
 abbrev pub usage_job : Job
 usage_job = record { limit = None; verdict = λ _. Refused 1 usage_text }
 
--- whether the words ask for the plain run: there are two, and the second is `plain`
-unfoldable pub asks_plain : List (String Global) → Bool
-asks_plain [] = false
-asks_plain (program ∷ []) = false
-asks_plain (program ∷ mode ∷ []) = bytes_eq (string_bytes mode) (codes "plain")
-asks_plain (program ∷ mode ∷ more ∷ others) = false
+-- what an order of this mode asks for; a mode that isn't built is a faulty command line
+abbrev pub job_in : Mode → OrderValue → Job
+job_in modes.Plain o = plain_job
+job_in modes.Sched o = usage_job
+job_in modes.Run o = usage_job
+job_in modes.Check o = usage_job
+job_in modes.Gen o = usage_job
+job_in modes.Resume o = usage_job
+job_in modes.Look o = usage_job
+job_in modes.Pack o = usage_job
 
--- what these words ask for
-abbrev pub job_of : List (String Global) → Job
-job_of words = if asks_plain words then plain_job else usage_job
+-- what an order asks for
+abbrev pub job_of : OrderValue → Job
+job_of o = job_in o.mode o
+
+-- what words ask for that mean this: words that mean no order are a faulty command line
+abbrev pub job_meant : Option OrderValue → Job
+job_meant None = usage_job
+job_meant (Some o) = job_of o
 
 -- ---- what a job takes from the source
 

@@ -1,5 +1,5 @@
 -- What the parts of a call promise: the reading, the job, and the line on `note`.
-use Rattle.std.specs.Prelude.{◌≡◌, ℕ, ◌+◌, ◌≤◌, List, length, Result, Ok, Err, Vec, ◌⊎◌, ⊤}
+use Rattle.std.specs.Prelude.{◌≡◌, ℕ, ◌+◌, ◌≤◌, List, length, Result, Ok, Err, Vec, ◌⊎◌}
 use Rattle.std.specs.Io.KnownBytes.{Consumes, IsAtEnd}
 use Rattle.std.specs.declared.alloc.Global.{Global}
 use Rattle.dem_outside.specs.Change.{Stream, Change, IsKept, IsCalm, Fails, Gains, GainsPrefix}
@@ -19,7 +19,7 @@ use Rattle.dem_top.specs.declared.outcome.NotDone.{NotDone}
 use Rattle.dem_top.specs.declared.outcome.NotDone.TheVariants as stops
 use Rattle.dem_top.specs.declared.refusal.Refusal.TheVariants as refusals
 use Rattle.dem_top.specs.Verdicts.{Refused, read_failed_text}
-use Rattle.dem_top.specs.Jobs.{Job, Takes, ReadsWhole, ForLeft}
+use Rattle.dem_top.specs.Jobs.{Job, ReadsWhole, ForLeft}
 use Rattle.dem_top.specs.Answers.{Fulfils, Begins}
 use Rattle.dem_top.specs.Refusals.{outcome_status, refusal_status, refusal_text}
 

@@ -2,7 +2,8 @@
 ghost use Rattle.std.specs.Prelude.{◌≡◌, ◌⊎◌, [], IfSome, None};
 ghost use Rattle.std.specs.Io.KnownBytes.{Keeps, append_known};
 ghost use Rattle.std.specs.Io.Buffered.{writer_contents};
-ghost use Rattle.dem_top.specs.Jobs.{job_of};
+ghost use Rattle.dem_words.specs.Meaning.{words_of};
+ghost use Rattle.dem_top.specs.Jobs.{job_meant};
 ghost use Rattle.dem_top.specs.Streams.{passed, Serves};
 
 use crate::status::{OUT_OF_MEMORY, WRITE_FAILED};
@@ -34,7 +35,7 @@ pub fn stream_call<R: Read + Drop, W: Write + Drop, E: Write + Drop>(
     output: W,
     errors: E,
 ) -> Served<W, E>
-    ensures serves { IfSome result.writers (λ w. Serves (job_of words.now) (R.remaining input) (passed (W.contents output) (W.contents w.output))
+    ensures serves { IfSome result.writers (λ w. Serves (job_meant (words_of words.now)) (R.remaining input) (passed (W.contents output) (W.contents w.output))
         (passed (E.contents errors) (E.contents w.errors)) result.status) }
     ensures no_buffer { result.writers ≡ None → result.status ≡ 6 }
 {

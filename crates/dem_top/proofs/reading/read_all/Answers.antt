@@ -1,4 +1,4 @@
-use Rattle.std.proofs.Common.{◌++◌, ◌≤◌, ◌+◌, length, take, length-append, arith}
+use Rattle.std.proofs.Common.{◌++◌, ◌≤◌, ◌+◌, length, take, arith}
 use Rattle.std.proofs.KnownBytes.{Consumes-trans}
 use Rattle.std.proofs.lemmas.Grind.{common_steps}
 use Rattle.dem_top.proofs.reading.read_all.Goals as goal

@@ -1,5 +1,6 @@
-use Rattle.std.proofs.Common.{◌≡◌, List, ℕ, [], ⊎_elim, refl, sym, subst}
-use Rattle.dem_top.specs.Jobs.{job_of}
+use Rattle.std.proofs.Common.{◌≡◌, List, ℕ, [], ⊎_elim, sym, subst}
+use Rattle.dem_words.specs.Meaning.{words_of}
+use Rattle.dem_top.specs.Jobs.{job_meant}
 use Rattle.dem_top.specs.Streams.{passed, Serves}
 use Rattle.dem_top.proofs.StreamFacts.{served, unserved}
 use Rattle.dem_top.proofs.streams.stream_call.Goals as goal
@@ -12,8 +13,8 @@ returns-clause-serves g c =
     let to = g.E.Write.contents c.into_writer-errors.result in
     let rest : List ℕ = c.pass_on-status.result.2.items in
     let status : ℕ = c.pass_on-status.result.0 in
-    let P : ℕ → Type 0 = Serves (job_of c.args.words.now) (g.R.Read.remaining c.args.input) (passed a b) (passed from to) in
-    let Q : _ → ℕ → Type 0 = λ l. Serves (job_of c.args.words.now) l (passed a b) (passed from to) in
+    let P : ℕ → Type 0 = Serves (job_meant (words_of c.args.words.now)) (g.R.Read.remaining c.args.input) (passed a b) (passed from to) in
+    let Q : _ → ℕ → Type 0 = λ l. Serves (job_meant (words_of c.args.words.now)) l (passed a b) (passed from to) in
     let begins = rw (c.in-Ok.ensures.inner, c.in-Ok.ensures.empty) at c.new-out.ensures.held in
     let flushed = rw c.into_writer.ensures at c.pass_on-status.ensures.passed in
     ⊎_elim

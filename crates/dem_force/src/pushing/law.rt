@@ -3,6 +3,7 @@
 ghost use Rattle.std.specs.Prelude.{◌≡◌, ◌^◌, ◌≤◌};
 ghost use Rattle.dem_num.specs.Vectors.{widened, Within};
 ghost use Rattle.dem_model.specs.Law.{push_with, pushed_of, contact_of};
+ghost use Rattle.dem_model.specs.declared.limits.TheConstants.{MAX_DISPLACEMENT};
 ghost use Rattle.dem_model.specs.Ranges.{IsLaw, IsBounded, IsFirst, IsSecond, IsTouch, IsSmall};
 
 use crate::pushing::mixing::{effective_mass, effective_radius};
@@ -21,7 +22,7 @@ pub fn contact(law: &Law, a: &Side, b: &Side, t: Touch, h0: Vec3) -> Push
     requires first { IsFirst a.now }
     requires second { IsSecond b.now }
     requires touch { IsTouch t }
-    requires stored { Within (widened h0) (2 ^ 40) }
+    requires stored { Within (widened h0) MAX_DISPLACEMENT }
     ensures value { result ≡ contact_of law.now a.now b.now t h0 }
     ensures size { IsSmall result }
 {
@@ -36,7 +37,7 @@ fn pushed(law: &Law, a: &Side, b: &Side, n: Vec3, delta: u64, h0: Vec3) -> Push
     requires second { IsBounded b.now }
     requires normal { Within (widened n) (2 ^ 30) }
     requires overlap { delta ≤ 2 ^ 27 }
-    requires stored { Within (widened h0) (2 ^ 40) }
+    requires stored { Within (widened h0) MAX_DISPLACEMENT }
     ensures value { result ≡ pushed_of law.now a.now b.now n delta h0 }
     ensures size { IsSmall result }
 {
@@ -66,7 +67,7 @@ fn push_at(
     requires second { IsBounded b.now }
     requires direction { Within (widened n) (2 ^ 30) }
     requires normal_small { normal ≤ 2 ^ 62 }
-    requires held { Within (widened h) (2 ^ 40) }
+    requires held { Within (widened h) MAX_DISPLACEMENT }
     requires trial_small { Within trial (2 ^ 62) }
     ensures value { result ≡ push_with law.now a.now b.now n delta normal h trial }
     ensures size { IsSmall result }

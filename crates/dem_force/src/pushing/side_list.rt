@@ -4,6 +4,7 @@ ghost use Rattle.std.specs.Prelude.{◌≡◌, ◌<◌, ◌≤◌, ◌^◌, leng
 ghost use Rattle.dem_num.specs.Vectors.{widened, Within};
 ghost use Rattle.dem_model.specs.Motion.{AreSound, IsPair};
 ghost use Rattle.dem_model.specs.Pairs.{sphere_count};
+ghost use Rattle.dem_model.specs.declared.limits.TheConstants.{MAX_DISPLACEMENT};
 ghost use Rattle.dem_model.specs.Ranges.{IsTouch, IsSmall, wall_side_of};
 ghost use Rattle.dem_model.specs.Step.{push_of};
 ghost use Rattle.dem_force.specs.Sides.{AreSides};
@@ -83,7 +84,7 @@ pub fn push_from(
     requires pair { IsPair shapes.now pair }
     requires sides { AreSides shapes.now bodies.now sides.now }
     requires touch { IsTouch touch }
-    requires stored { Within (widened h) (2 ^ 40) }
+    requires stored { Within (widened h) MAX_DISPLACEMENT }
     ensures value { result ≡ push_of shapes.now bodies.now pair touch h }
     ensures size { IsSmall result }
 {

@@ -49,7 +49,7 @@ pub struct Grip {
 pub fn carried(n: Vec3, slip: Wide3, h0: Vec3) -> Vec3
     requires normal { Within (widened n) (2 ^ 30) }
     requires slip_small { Within slip (2 ^ 51) }
-    requires stored_small { Within (widened h0) (2 ^ 40) }
+    requires stored_small { Within (widened h0) MAX_DISPLACEMENT }
     ensures value { result ≡ carried_of n slip h0 }
     ensures size { Within (widened result) (2 ^ 40) }
 {
@@ -61,7 +61,7 @@ pub fn carried(n: Vec3, slip: Wide3, h0: Vec3) -> Vec3
 fn pull(stiffness: u64, factor: u128, h: i64, slip: i128) -> i128
     requires stiffness_small { stiffness ≤ 2 ^ 55 }
     requires factor_small { factor ≤ 2 ^ 66 }
-    requires held_small { AtMost h (2 ^ 40) }
+    requires held_small { AtMost h MAX_DISPLACEMENT }
     requires slip_small { AtMost slip (2 ^ 51) }
     ensures value { result ≡ clamped (opposite (shifted (pos stiffness *ℤ h) 32) -ℤ shifted (pos factor *ℤ slip) 32) (pos MAX_FORCE) }
     ensures size { AtMost result (2 ^ 62) }
@@ -76,7 +76,7 @@ fn pull(stiffness: u64, factor: u128, h: i64, slip: i128) -> i128
 /// The elastic part of a component of the tangential force, the other way round.
 fn stretched(stiffness: u64, h: i64) -> i128
     requires stiffness_small { stiffness ≤ 2 ^ 55 }
-    requires held_small { AtMost h (2 ^ 40) }
+    requires held_small { AtMost h MAX_DISPLACEMENT }
     ensures value { result ≡ shifted (pos stiffness *ℤ h) 32 }
     ensures size { AtMost result (2 ^ 63) }
 {
@@ -89,7 +89,7 @@ pub fn trial(law: &Law, c: u64, mass: u64, h: Vec3, slip: Wide3) -> Wide3
     requires law { IsLaw law.now }
     requires radius { c ≤ 2 ^ 27 }
     requires mass_small { mass ≤ 2 ^ 40 }
-    requires held_small { Within (widened h) (2 ^ 40) }
+    requires held_small { Within (widened h) MAX_DISPLACEMENT }
     requires slip_small { Within slip (2 ^ 51) }
     ensures value { result ≡ trial_of law.now c mass h slip }
     ensures size { Within result (2 ^ 62) }
@@ -142,7 +142,7 @@ fn shortened_force(force: Wide3, bound: u64, size: u64) -> Wide3
 
 /// A component of a displacement in the ratio of a bound to a size that passes it.
 fn shortened_held(h: i64, bound: u64, size: u64) -> i64
-    requires held_small { AtMost h (2 ^ 40) }
+    requires held_small { AtMost h MAX_DISPLACEMENT }
     requires size_small { size ≤ 2 ^ 63 }
     requires passed { bound < size }
     ensures value { result ≡ quotient (pos bound *ℤ h) (pos size) }
@@ -153,7 +153,7 @@ fn shortened_held(h: i64, bound: u64, size: u64) -> i64
 
 /// A displacement, shortened as its force is.
 fn shortened_displacement(h: Vec3, bound: u64, size: u64) -> Vec3
-    requires held_small { Within (widened h) (2 ^ 40) }
+    requires held_small { Within (widened h) MAX_DISPLACEMENT }
     requires size_small { size ≤ 2 ^ 63 }
     requires passed { bound < size }
     ensures value { result ≡ narrowed (quotients (scaled (pos bound) (widened h)) (pos size)) }
@@ -192,11 +192,11 @@ fn sticks(force: Wide3, bound: u128) -> bool
 #[tactic(auto, unfolding(dem_model::specs::Law::friction_of, dem_model::specs::Law::held_after))]
 pub fn gripped(kt: u32, bound: u128, trial: Wide3, h: Vec3) -> Grip
     requires trial_small { Within trial (2 ^ 62) }
-    requires held_small { Within (widened h) (2 ^ 40) }
+    requires held_small { Within (widened h) MAX_DISPLACEMENT }
     ensures friction { result.friction ≡ friction_of bound trial }
     ensures held { result.h ≡ held_after kt bound trial h }
     ensures friction_size { Within result.friction (2 ^ 62) }
-    ensures held_size { Within (widened result.h) (2 ^ 40) }
+    ensures held_size { Within (widened result.h) MAX_DISPLACEMENT }
 {
     if sticks(trial, bound) {
         return Grip {
@@ -211,12 +211,12 @@ pub fn gripped(kt: u32, bound: u128, trial: Wide3, h: Vec3) -> Grip
 #[tactic(auto, unfolding(dem_model::specs::Law::friction_of, dem_model::specs::Law::held_after))]
 fn slipping(kt: u32, bound: u64, trial: Wide3, h: Vec3) -> Grip
     requires trial_small { Within trial (2 ^ 62) }
-    requires held_small { Within (widened h) (2 ^ 40) }
+    requires held_small { Within (widened h) MAX_DISPLACEMENT }
     requires passed { bound < root_of (norm2_of trial) }
     ensures friction { result.friction ≡ friction_of bound trial }
     ensures held { result.h ≡ held_after kt bound trial h }
     ensures friction_size { Within result.friction (2 ^ 62) }
-    ensures held_size { Within (widened result.h) (2 ^ 40) }
+    ensures held_size { Within (widened result.h) MAX_DISPLACEMENT }
 {
     let size = force_size(trial);
     Grip {
@@ -227,7 +227,7 @@ fn slipping(kt: u32, bound: u64, trial: Wide3, h: Vec3) -> Grip
 
 /// The displacement, where there is a tangential stiffness to hold it.
 fn held_where(kt: u32, h: Vec3) -> Vec3
-    requires held_small { Within (widened h) (2 ^ 40) }
+    requires held_small { Within (widened h) MAX_DISPLACEMENT }
     ensures value { result ≡ (if kt == 0 then narrowed no_vector else h) }
     ensures size { Within (widened result) (2 ^ 40) }
 {

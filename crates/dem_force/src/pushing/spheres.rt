@@ -4,9 +4,9 @@ ghost use Rattle.std.specs.Prelude.{◌≡◌, IfOk};
 ghost use Rattle.dem_model.specs.Centers.{centers_of};
 ghost use Rattle.dem_model.specs.Motion.{AreSound};
 ghost use Rattle.dem_force.specs.Sides.{AreSides};
-ghost use Rattle.dem_step.specs.Inside.{HasPlaces};
+ghost use Rattle.dem_force.specs.Places.{HasPlaces};
 
-use dem_force::Sides;
+use crate::pushing::side_list::Sides;
 use dem_model::{Body, OutOfMemory};
 use dem_shape::{Centers, Shapes};
 use std::alloc::Global;

@@ -1,7 +1,7 @@
 use Rattle.std.proofs.Common.{sym, ap, ◌∙◌}
 use Rattle.dem_model.specs.Step.{push_of}
-use Rattle.dem_plain.proofs.HoldsFacts.{meeting_some, meeting_none}
-use Rattle.dem_step.proofs.meeting.push_of.Goals as goal
+use Rattle.dem_force.proofs.MeetingFacts.{meeting_some, meeting_none}
+use Rattle.dem_force.proofs.pushing.meeting.pushed.Goals as goal
 
 pub returns-in-Some-clause-value : goal.returns-in-Some-clause-value
 returns-in-Some-clause-value g c =

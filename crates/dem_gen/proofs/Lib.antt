@@ -1,1 +1,3 @@
 pub mod WordFacts
+pub mod ListFacts
+pub mod EdgeFacts

@@ -17,3 +17,8 @@ unfolding word_of
 word_later words a b = ap (λ x. (mix_u64 x).0) (after_more words a b)
 
 pub ruleset words = (after_more, word_later)
+
+-- no word was drawn
+pub none_yet : (words : ℕ) → words ≡ state_after words 0
+unfolding state_after
+none_yet words = refl

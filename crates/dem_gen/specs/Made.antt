@@ -82,15 +82,15 @@ made_clump words edge i = record {
 
 -- ---- the scene
 
--- the four templates take the first four words
+-- four templates, with one word each
 unfoldable pub made_templates : ℕ → List Template
-made_templates seed = map (λ j. made_template (state_after seed j)) (range_with_len 0 4)
+made_templates words = map (λ j. made_template (state_after words j)) (range_with_len 0 4)
 
--- each clump takes the seven words after those of the clump before
-unfoldable pub made_clumps : (seed edge count : ℕ) → List Clump
-made_clumps seed edge count = map (λ i. made_clump (state_after seed (4 + 7 * i)) edge i) (range_with_len 0 count)
+-- so many clumps, with seven words each
+unfoldable pub made_clumps : (words edge count : ℕ) → List Clump
+made_clumps words edge count = map (λ i. made_clump (state_after words (7 * i)) edge i) (range_with_len 0 count)
 
--- the scene of a seed and a number of clumps
+-- the scene of a seed and a number of clumps: the words of the clumps come after those of the templates
 unfoldable pub made_of : (seed count : ℕ) → SceneValue
 made_of seed count = let voxels = 32 * (edge_of count + 2) in record {
   nx = voxels;
@@ -104,5 +104,5 @@ made_of seed count = let voxels = 32 * (edge_of count + 2) in record {
   materials = made_material ∷ [];
   templates = made_templates seed;
   walls = made_floor ∷ [];
-  clumps = made_clumps seed (edge_of count) count;
+  clumps = made_clumps (state_after seed 4) (edge_of count) count;
 }

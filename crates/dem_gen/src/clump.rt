@@ -1,5 +1,5 @@
 //! The clumps of a made scene.
-ghost use Rattle.std.specs.Prelude.{◌≡◌, ◌<◌, ◌≤◌, ◌*◌, ◌+◌, ℕ, OnOk, IfOk};
+ghost use Rattle.std.specs.Prelude.{◌≡◌, ◌<◌, ◌≤◌, IfOk};
 ghost use Rattle.dem_gen.specs.Made.{made_clump, made_clumps, made_place, made_velocity, place_in, speed_from, state_after};
 
 use crate::words::draw;
@@ -28,7 +28,7 @@ pub(crate) fn clumps(
     requires some { 1 ≤ edge }
     requires few { edge ≤ 26 }
     requires many { count ≤ 16384 }
-    ensures { (seed : ℕ) → words.old ≡ state_after seed 4 → IfOk result (λ cs. cs ≡ made_clumps seed edge count) }
+    ensures { IfOk result (λ cs. cs ≡ made_clumps words.old edge count) }
 {
     let mut clumps = List::new(alloc);
     for i in 0..count {

@@ -4,11 +4,12 @@ pub mod Spheres
 pub mod Sound
 pub mod Pairs
 pub mod Touch
-pub mod Centres
+pub mod Centers
 pub mod Mixing
 pub mod Law
 pub mod Advance
 pub mod Step
+pub mod Counts
 pub mod Plain
 pub mod Motion
 pub mod ReadingNames
@@ -22,3 +23,9 @@ pub mod Output
 pub mod Ranges
 pub mod Near
 pub mod Carry
+pub mod World
+pub mod TakenRows
+pub mod Exchange
+pub mod ExchangeKinds
+pub mod ExchangeSteps
+pub mod Made

@@ -11,7 +11,7 @@ use Rattle.dem_num.specs.Vectors.{widened, narrowed, no_vector, Within}
 use Rattle.dem_model.specs.SceneValue.{SceneValue}
 use Rattle.dem_model.specs.Sound.{IsSound}
 use Rattle.dem_model.specs.Pairs.{all_pairs}
-use Rattle.dem_model.specs.Centres.{centres_of, touch_of}
+use Rattle.dem_model.specs.Centers.{centers_of, touch_of}
 use Rattle.dem_model.specs.Motion.{IsPair}
 use Rattle.dem_model.specs.Near.{near, near_of, Covers}
 use Rattle.dem_model.specs.Carry.{held_of, kept_of, carried, Agrees}
@@ -21,13 +21,15 @@ use Rattle.dem_model.specs.declared.state.Body.{Body}
 use Rattle.dem_model.specs.declared.state.Held.{Held}
 use Rattle.dem_model.specs.declared.state.Pair.{Pair}
 use Rattle.dem_model.specs.declared.state.State.{State}
-use Rattle.dem_model.proofs.CountFacts.{pair_count, pair_count-append, pair_count-all}
-use Rattle.dem_plain.specs.Run.{AreStored}
+use Rattle.dem_model.proofs.CountFacts.{pair_count-append, pair_count-all}
+use Rattle.dem_model.specs.Counts.{pair_count}
+use Rattle.dem_model.specs.declared.limits.TheConstants.{MAX_DISPLACEMENT}
+use Rattle.dem_force.specs.Stored.{AreStored, IsStored}
 use Rattle.dem_list.proofs.AscendingFacts.{same_pair-equal}
 use Rattle.dem_hist.proofs.CarryFacts.{kept_of-cons, same_pair-itself}
 use Rattle.dem_margin.proofs.PairsFacts.{all_pairs-pairs}
-use Rattle.dem_step.specs.Stepper.{AreWithin}
-use Rattle.dem_step.specs.Met.{ArePairs, entry_of}
+use Rattle.dem_step.specs.Contacts.{ArePairs, IsHeldIn}
+use Rattle.dem_step.specs.Inside.{displacement_of}
 
 -- ---- what is held of the pairs of a list
 
@@ -60,15 +62,15 @@ kept_of-take (p ∷ ps) (e ∷ es) = ap (cons_option (option_map (held_of p) e))
 
 -- a displacement that may be stored
 abbrev Fits : Vec3 → Type 0
-Fits h = Within (widened h) (2 ^ 40)
+Fits h = Within (widened h) MAX_DISPLACEMENT
 
 -- an entry that may be stored
 abbrev EntryFits : Option Vec3 → Type 0
-EntryFits e = IfSome e (λ h. Within (widened h) (2 ^ 40))
+EntryFits e = IsStored e
 
 -- what is held of a pair, within the range
 abbrev HeldFits : Held → Type 0
-HeldFits e = Within (widened e.h) (2 ^ 40)
+HeldFits e = Within (widened e.h) MAX_DISPLACEMENT
 
 -- one entry more is held within the range
 cons_stored : (p : Pair) (e : Option Vec3) (hs : List Held) → EntryFits e → AreStored hs → AreStored (cons_option (option_map (held_of p) e) hs)
@@ -81,7 +83,7 @@ cons_within p None hs all = (tt, all)
 cons_within p (Some h) hs all = (All-head HeldFits (held_of p h) hs all, All-tail HeldFits (held_of p h) hs all)
 
 -- entries within the range are held within it
-pub within-stored : (ps : List Pair) (es : List (Option Vec3)) → AreWithin es → AreStored (kept_of ps es)
+pub within-stored : (ps : List Pair) (es : List (Option Vec3)) → All IsStored es → AreStored (kept_of ps es)
 unfolding kept_of
 within-stored [] es h = All-nil HeldFits
 within-stored (p ∷ ps) [] h = All-nil HeldFits
@@ -89,7 +91,7 @@ within-stored (p ∷ ps) (e ∷ es) h =
     cons_stored p e (kept_of ps es) (All-head EntryFits e es h) (within-stored ps es (All-tail EntryFits e es h))
 
 -- and where there is an entry for each pair, they are within the range if all that is held is
-pub stored-within : (ps : List Pair) (es : List (Option Vec3)) → length es ≡ length ps → AreStored (kept_of ps es) → AreWithin es
+pub stored-within : (ps : List Pair) (es : List (Option Vec3)) → length es ≡ length ps → AreStored (kept_of ps es) → All IsStored es
 unfolding kept_of
 stored-within [] [] n h = All-nil EntryFits
 stored-within [] (e ∷ es) n h = absurd (omega arith)
@@ -99,7 +101,7 @@ stored-within (p ∷ ps) (e ∷ es) n h =
     All-cons EntryFits e es parts.0 (stored-within ps es (omega arith) parts.1)
 
 -- what is held of one pair is within the range
-pub held_at-within : (es : List Held) (p : Pair) → AreStored es → IfSome (held_at es p) (λ h. Within (widened h) (2 ^ 40))
+pub held_at-within : (es : List Held) (p : Pair) → AreStored es → IsStored (held_at es p)
 unfolding held_at
 held_at-within [] p all = tt
 held_at-within (e ∷ es) p all =
@@ -109,7 +111,7 @@ held_at-within (e ∷ es) p all =
     ]
 
 -- entries stay within the range when they are carried
-pub carried-within : (ps : List Pair) (es : List (Option Vec3)) (new : List Pair) → AreWithin es → AreWithin (carried ps es new)
+pub carried-within : (ps : List Pair) (es : List (Option Vec3)) (new : List Pair) → All IsStored es → All IsStored (carried ps es new)
 unfolding carried
 carried-within ps es new h =
     All-map EntryFits (held_at (kept_of ps es)) new (λ k d lt. held_at-within (kept_of ps es) (get_or new k d) (within-stored ps es h))
@@ -163,6 +165,19 @@ held_at-mapped f (q ∷ new) p there =
     later q p new o (zero, l, e) = let itself : same_pair q p ≡ true = ap (λ x. same_pair x p) e ∙ same_pair-itself p in absurd (cc)
     later q p new o (suc k, l, e) = (k, omega arith, e)
 
+-- what is held of a pair is what the function has put there
+held_at-only : (f : Pair → Option Vec3) (new : List Pair) (p : Pair) (h : Vec3) → held_at (kept_of new (map f new)) p ≡ Some h → f p ≡ Some h
+held_at-only f [] p h e = let none : held_at (kept_of [] (map f [])) p ≡ None = unfold held_at kept_of in refl in absurd (cc)
+held_at-only f (q ∷ new) p h e =
+    let cons : held_at (cons_option (option_map (held_of q) (f q)) (kept_of new (map f new))) p ≡ Some h = ap (λ hs. held_at hs p) (sym (kept_of-cons q new (f q) (map f new))) ∙ e in
+    elim (cases_Bool (same_pair q p)) [
+      | inl t ↦
+          ap f (sym (same_is q p t))
+          ∙ sym (held_at-this (f q) q (kept_of new (map f new)) p t (λ none. held_at-none f new p (ap f (sym (same_is q p t)) ∙ none)))
+          ∙ cons
+      | inr o ↦ held_at-only f new p h (sym (held_at-other (f q) q (kept_of new (map f new)) p o) ∙ cons)
+    ]
+
 -- of each pair of the new list the old list's entry is held
 pub held_at-carried : (ps : List Pair) (es : List (Option Vec3)) (new : List Pair) (p : Pair) → Contains new p →
     held_at (kept_of new (carried ps es new)) p ≡ held_at (kept_of ps es) p
@@ -198,45 +213,45 @@ none_there None b follows n = refl
 none_there (Some x) b follows n = let yes : b ≡ true = follows refl in absurd (cc)
 
 -- a pair that doesn't touch has no meeting
-meeting-none : (s : SceneValue) (bodies : List Body) (centres : List Vec3) (p : Pair) (h : Option Vec3) → touch_of s centres p ≡ None → meeting s bodies centres p h ≡ None
+meeting-none : (s : SceneValue) (bodies : List Body) (centers : List Vec3) (p : Pair) (h : Option Vec3) → touch_of s centers p ≡ None → meeting s bodies centers p h ≡ None
 unfolding meeting
-meeting-none s bodies centres p h e = rw e refl
+meeting-none s bodies centers p h e = rw e refl
 
 -- the near pairs have all the meetings, where they cover those that touch
-pub meetings-near : (s : SceneValue) (drift : ℕ) (bodies : List Body) (from centres : List Vec3) (held : List Held) → Covers s drift from centres →
-    meetings s bodies centres held (near_of s drift from) ≡ meetings s bodies centres held (all_pairs s)
+pub meetings-near : (s : SceneValue) (drift : ℕ) (bodies : List Body) (from centers : List Vec3) (held : List Held) → Covers s drift from centers →
+    meetings s bodies centers held (near_of s drift from) ≡ meetings s bodies centers held (all_pairs s)
 unfolding meetings near_of
-meetings-near s drift bodies from centres held covers =
-    filter_map-filter (λ (p : Pair). meeting s bodies centres p (held_at held p)) (near s drift from) (all_pairs s)
+meetings-near s drift bodies from centers held covers =
+    filter_map-filter (λ (p : Pair). meeting s bodies centers p (held_at held p)) (near s drift from) (all_pairs s)
     (λ k d lt far.
     let p : Pair = get_or (all_pairs s) k d in
-    meeting-none s bodies centres p (held_at held p) (none_there (touch_of s centres p) (near s drift from p) (covers k d lt) far))
+    meeting-none s bodies centers p (held_at held p) (none_there (touch_of s centers p) (near s drift from p) (covers k d lt) far))
 
 -- a meeting asks what is held of its pair where it touches alone
-meeting-agree : (s : SceneValue) (bodies : List Body) (centres : List Vec3) (p : Pair) (h k : Option Vec3) (o : Option Touch) → touch_of s centres p ≡ o →
-    (is_some (touch_of s centres p) ≡ true → h ≡ k) → meeting s bodies centres p h ≡ meeting s bodies centres p k
-meeting-agree s bodies centres p h k None e agree = meeting-none s bodies centres p h e ∙ sym (meeting-none s bodies centres p k e)
-meeting-agree s bodies centres p h k (Some t) e agree = ap (meeting s bodies centres p) (agree (ap is_some e))
+meeting-agree : (s : SceneValue) (bodies : List Body) (centers : List Vec3) (p : Pair) (h k : Option Vec3) (o : Option Touch) → touch_of s centers p ≡ o →
+    (is_some (touch_of s centers p) ≡ true → h ≡ k) → meeting s bodies centers p h ≡ meeting s bodies centers p k
+meeting-agree s bodies centers p h k None e agree = meeting-none s bodies centers p h e ∙ sym (meeting-none s bodies centers p k e)
+meeting-agree s bodies centers p h k (Some t) e agree = ap (meeting s bodies centers p) (agree (ap is_some e))
 
 -- the meetings are the same where the same is held of each pair that touches
-pub meetings-agree : (s : SceneValue) (bodies : List Body) (centres : List Vec3) (held other : List Held) (ps : List Pair) →
-    All (λ p. is_some (touch_of s centres p) ≡ true → held_at held p ≡ held_at other p) ps →
-    meetings s bodies centres held ps ≡ meetings s bodies centres other ps
+pub meetings-agree : (s : SceneValue) (bodies : List Body) (centers : List Vec3) (held other : List Held) (ps : List Pair) →
+    All (λ p. is_some (touch_of s centers p) ≡ true → held_at held p ≡ held_at other p) ps →
+    meetings s bodies centers held ps ≡ meetings s bodies centers other ps
 unfolding meetings
-meetings-agree s bodies centres held other ps agree =
-    filter_map-agree (λ (p : Pair). meeting s bodies centres p (held_at held p)) (λ (p : Pair). meeting s bodies centres p (held_at other p)) ps
+meetings-agree s bodies centers held other ps agree =
+    filter_map-agree (λ (p : Pair). meeting s bodies centers p (held_at held p)) (λ (p : Pair). meeting s bodies centers p (held_at other p)) ps
     (λ k d lt.
     let p : Pair = get_or ps k d in
-    meeting-agree s bodies centres p (held_at held p) (held_at other p) (touch_of s centres p) refl (agree k d lt))
+    meeting-agree s bodies centers p (held_at held p) (held_at other p) (touch_of s centers p) refl (agree k d lt))
 
 -- what a meeting leaves is held of its pair
-pub entry-held : (s : SceneValue) (bodies : List Body) (centres : List Vec3) (p : Pair) (h : Option Vec3) →
-    option_map (held_of p) (entry_of (meeting s bodies centres p h)) ≡ option_map held_in (meeting s bodies centres p h)
+pub entry-held : (s : SceneValue) (bodies : List Body) (centers : List Vec3) (p : Pair) (h : Option Vec3) →
+    option_map (held_of p) (displacement_of (meeting s bodies centers p h)) ≡ option_map held_in (meeting s bodies centers p h)
 unfolding meeting held_in
-entry-held s bodies centres p h = by (touch_of s centres p)
+entry-held s bodies centers p h = by (touch_of s centers p)
   where
     by : (o : Option Touch) →
-        option_map (held_of p) (entry_of (option_map (λ (t : Touch). record { pair = p; push = push_of s bodies p t (unwrap_or h (narrowed no_vector)) }) o)) ≡
+        option_map (held_of p) (displacement_of (option_map (λ (t : Touch). record { pair = p; push = push_of s bodies p t (unwrap_or h (narrowed no_vector)) }) o)) ≡
         option_map held_in (option_map (λ (t : Touch). record { pair = p; push = push_of s bodies p t (unwrap_or h (narrowed no_vector)) }) o)
     by None = refl
     by (Some t) = refl
@@ -259,9 +274,9 @@ contains_passing q (x ∷ ps) p (suc k, l, e) is =
     ]
 
 -- a near pair is in the list of the near pairs
-pub near-contains : (s : SceneValue) (drift : ℕ) (centres : List Vec3) (p : Pair) → Contains (all_pairs s) p → near s drift centres p ≡ true → Contains (near_of s drift centres) p
+pub near-contains : (s : SceneValue) (drift : ℕ) (centers : List Vec3) (p : Pair) → Contains (all_pairs s) p → near s drift centers p ≡ true → Contains (near_of s drift centers) p
 unfolding near_of
-near-contains s drift centres p there is = contains_passing (near s drift centres) (all_pairs s) p there is
+near-contains s drift centers p there is = contains_passing (near s drift centers) (all_pairs s) p there is
 
 -- ---- how many pairs a clump has a part in
 
@@ -283,20 +298,25 @@ pair_count-filter s c q (p ∷ ps) =
     ]
 
 -- the near pairs are pairs, and few
-pub near-pairs : (s : SceneValue) (drift : ℕ) (centres : List Vec3) → IsSound s → ArePairs s (near_of s drift centres)
+pub near-pairs : (s : SceneValue) (drift : ℕ) (centers : List Vec3) → IsSound s → ArePairs s (near_of s drift centers)
 unfolding near_of
-near-pairs s drift centres sound = record {
-  each = All-filter (near s drift centres) (IsPair s) (all_pairs s) (all_pairs-pairs s);
-  few = λ c. omega (arith, pair_count-filter s c (near s drift centres) (all_pairs s), pair_count-all s c sound);
+near-pairs s drift centers sound = record {
+  each = All-filter (near s drift centers) (IsPair s) (all_pairs s) (all_pairs-pairs s);
+  few = λ c. omega (arith, pair_count-filter s c (near s drift centers) (all_pairs s), pair_count-all s c sound);
 }
 
 -- ---- a new list
 
 -- what agrees with a state before it is carried to a list that covers each touch agrees after it
 pub agrees-carried : (s : SceneValue) (drift : ℕ) (st : State) (from : List Vec3) (ps new : List Pair) (es : List (Option Vec3)) →
-    Covers s drift from (centres_of s st.bodies) → new ≡ near_of s drift from → Agrees s st (kept_of ps es) → Agrees s st (kept_of new (carried ps es new))
+    Covers s drift from (centers_of s st.bodies) → new ≡ near_of s drift from → Agrees s st (kept_of ps es) → Agrees s st (kept_of new (carried ps es new))
 agrees-carried s drift st from ps new es covers is agrees = λ k d lt touches.
     let p : Pair = get_or (all_pairs s) k d in
     let there : Contains (near_of s drift from) p = near-contains s drift from p (Contains-get_or (all_pairs s) k d lt) (covers k d lt touches) in
     let listed : Contains new p = subst (λ (xs : List Pair). Contains xs p) (sym is) there in
     held_at-carried ps es new p listed ∙ agrees k d lt touches
+
+-- what is held of the old list's pairs is held of the new list's, and no more
+pub only-carried : (st : State) (ps new : List Pair) (es : List (Option Vec3)) → IsHeldIn st (kept_of ps es) → IsHeldIn st (kept_of new (carried ps es new))
+unfolding carried
+only-carried st ps new es only = λ p h e. only p h (held_at-only (held_at (kept_of ps es)) new p h e)

@@ -1,0 +1,4 @@
+pub mod Exchange
+pub mod ExchangeKinds
+pub mod Cycle
+pub mod Seats

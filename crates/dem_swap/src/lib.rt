@@ -1,0 +1,14 @@
+//! The exchange of a parcel between dynamics and kinematics.
+#![tactic(auto)]
+
+mod known;
+mod parcel;
+mod plays;
+mod seats;
+mod swap;
+
+pub use known::{Dynamics, Kinematics, View};
+pub use parcel::Parcel;
+pub use plays::Cycle;
+pub use seats::{DynSeat, KinSeat};
+pub use swap::Swap;

@@ -145,10 +145,13 @@ collect_hit slots stop (some (Some p)) d k h f = (
   ),
 )
 
+not_three : (n : ℕ) → n ≡ 3 → n ≡ 0 → ⊥
+not_three n is zero_is = omega arith
+
 -- where the word is 3, dynamics has company
 collect_found : (slots stop : ℕ) (place : Home (Option Parcel)) (d : DynamicsView) (k : Option KinematicsView) (h : List (ℕ × Option Parcel)) → Follows (exchange_of 3 stop place d k)
     → Goes (table_of 3 stop place d k) 0 (OfDynamics d, h) 0 (λ n. either (n == 3) 0 n) (Collects (step slots 0 3 0 none) (OfDynamics d, h))
-collect_found slots stop place d None h f = let e : 3 ≡ 0 = f.sides.turn_is in absurd (omega arith)
+collect_found slots stop place d None h f = absurd (not_three 3 refl f.sides.turn_is)
 collect_found slots stop place d (Some k) h f = collect_hit slots stop place d k h f
 
 -- 4

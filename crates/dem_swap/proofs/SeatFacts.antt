@@ -2,15 +2,15 @@
 use Rattle.std.proofs.Common.{◌≡◌, ◌≢◌, ℕ, zero, suc, ◌+◌, ◌==◌, Bool, true, false, List, [], ◌∷◌, length, Option, Some, None, refl, sym, ap, ◌∙◌, subst, arith}
 use mathlib.Core.Option.{none}
 use prog.Atomic.{either}
-use Rattle.atomic_table.specs.Table.{Allows, step, rest}
+use Rattle.atomic_table.specs.Table.{Allows, Splits, step, rest}
 use Rattle.dem_swap.specs.declared.known.View.{View}
 use Rattle.dem_swap.specs.declared.known.View.TheVariants.{OfDynamics, OfKinematics}
 use Rattle.dem_swap.specs.declared.parcel.Parcel.{Parcel}
-use Rattle.dem_swap.specs.Exchange.{Snap, DynamicsView, KinematicsView, IsSoundFor, IsAnswer}
-use Rattle.dem_swap.specs.ExchangeKinds.{HoldsHome, HasPosted, HoldsNone, HoldsTaken}
-use Rattle.dem_swap.specs.Cycle.{snap_of, cargo_of, KeepsCycle, dynamics_in, kinematics_in, Side, held_with, Posts, Takes, Delivers, Collects, Checks, Raises}
+use Rattle.dem_swap.specs.Exchange.{Snap, Terms, DynamicsView, KinematicsView, IsSoundFor, IsAnswer}
+use Rattle.dem_swap.specs.ExchangeKinds.{HoldsHome, HasPosted, HoldsNone, HoldsTaken, beginning, newcomer}
+use Rattle.dem_swap.specs.Cycle.{snap_of, cargo_of, KeepsCycle, dynamics_in, kinematics_in, Side, held_with, Posts, Takes, Delivers, Collects, Checks, Raises, Begins, left_of, right_of}
 use Rattle.dem_swap.specs.Seats.{IsDynSeat, IsKinSeat}
-use Rattle.dem_swap.proofs.CycleFacts.{post_allowed, take_allowed, deliver_allowed, collect_allowed, check_allowed, raise_allowed}
+use Rattle.dem_swap.proofs.CycleFacts.{post_allowed, take_allowed, deliver_allowed, collect_allowed, check_allowed, raise_allowed, begin_allowed, split_allowed}
 
 -- a raise
 pub raise_from : (slots id : ℕ) (m : Side) → IsDynSeat id m → Allows KeepsCycle slots id m 1 (λ _. 1) (λ _. Raises (step slots 1 1 0 none) m 1)
@@ -65,3 +65,17 @@ deliver_from slots id n v p is taken answer =
 -- a seat that has just taken the slot, with something in it
 pub taken_slot : (v : View) (n : Side) (content : Option Parcel) (h : List (ℕ × Option Parcel)) → n ≡ (v, held_with content h) → n.1 ≡ (0, content) ∷ rest n.1
 taken_slot v n content h is = subst (λ (z : Side). z.1 ≡ (0, content) ∷ rest z.1) (sym is) refl
+
+-- the beginning
+pub begin_from : (slots id : ℕ) (m : Side) (t : Terms) → id ≡ 0 → m ≡ (OfDynamics newcomer, []) → Allows KeepsCycle slots id m 0 (λ n. n) (Begins t (step slots 0 0 0 none) m)
+begin_from slots id m t first fresh =
+    subst (λ (z : ℕ × Side). Allows KeepsCycle slots z.0 z.1 0 (λ n. n) (Begins t (step slots 0 0 0 none) z.1)) (λ j. (sym first j, sym fresh j)) (begin_allowed slots t)
+
+-- what the first seat knows once it has begun
+pub begun : (m n : Side) (t : Terms) → m ≡ (OfDynamics newcomer, []) → n ≡ (OfDynamics (beginning (dynamics_in m.0) t), held_with None []) → n ≡ (OfDynamics (beginning newcomer t), held_with None [])
+begun m n t fresh is = is ∙ ap (λ (z : Side). (OfDynamics (beginning (dynamics_in z.0) t), held_with None [])) fresh
+
+-- the split
+pub split_from : (id id' : ℕ) (n : Side) (t : Terms) → id ≡ 0 → id' ≡ id → n ≡ (OfDynamics (beginning newcomer t), held_with None []) → Splits KeepsCycle id' n.0 (left_of n.0) (right_of n.0)
+split_from id id' n t first same is =
+    subst (λ (z : ℕ × Side). Splits KeepsCycle z.0 z.1.0 (left_of z.1.0) (right_of z.1.0)) (λ j. (sym (same ∙ first) j, sym is j)) (split_allowed t)

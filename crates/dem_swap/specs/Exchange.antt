@@ -17,6 +17,10 @@ pub record Terms : Type 0 where
   pub scene : SceneValue
   pub drift : ℕ
 
+-- the terms of a scene and a drift limit
+abbrev pub terms_of : SceneValue → ℕ → Terms
+terms_of s drift = record { scene = s; drift = drift }
+
 -- what travels: a snapshot, a list of pairs with the step that it was made from, and whether the list was refused
 pub record Cargo : Type 0 where
   pub snap : Snap

@@ -2,6 +2,7 @@
 #![tactic(auto)]
 
 mod known;
+mod opening;
 mod parcel;
 mod plays;
 mod seats;

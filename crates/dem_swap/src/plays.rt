@@ -16,7 +16,7 @@ ghost use Rattle.dem_swap.specs.Cycle.{
 use crate::known::View;
 use crate::parcel::Parcel;
 use atomic_table::{Play, Split, TableRule};
-use std::marker::PhantomData;
+use std::marker::{Brand, PhantomData};
 
 /// The rule of the exchange, over its table.
 pub struct Cycle;
@@ -71,6 +71,28 @@ pub(crate) trait Meant {
     ghost use Rattle.dem_swap.specs.Exchange.{Terms};
 
     ghost terms: { Terms };
+}
+
+impl Meant for Brand {
+    ghost use Rattle.std.specs.Prelude.{[], pos};
+
+    ghost terms = { record {
+      scene = record {
+        nx = 0;
+        ny = 0;
+        nz = 0;
+        steps = 0;
+        every = 0;
+        speed = 0;
+        spin = 0;
+        gravity = record { x = pos 0; y = pos 0; z = pos 0 };
+        materials = [];
+        templates = [];
+        walls = [];
+        clumps = [];
+      };
+      drift = 0;
+    } };
 }
 
 pub(crate) struct Begin<J: Meant> {

@@ -26,7 +26,7 @@ use std::alloc::Global;
 use std::marker::Model;
 
 /// The place of the turn word.
-const TURN: usize = 0;
+pub(crate) const TURN: usize = 0;
 
 /// The place of the stop word.
 const STOP: usize = 1;

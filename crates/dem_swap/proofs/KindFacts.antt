@@ -1,8 +1,8 @@
 -- Each kind of step keeps the rule of the exchange.
-use Rattle.std.proofs.Common.{◌≡◌, ℕ, zero, suc, ◌+◌, Bool, true, false, List, [], ◌∷◌, length, Option, Some, None, refl, sym, ap, ◌∙◌, subst, arith}
+use Rattle.std.proofs.Common.{◌≡◌, ℕ, zero, suc, ◌+◌, ◌<◌, Bool, true, false, List, [], ◌∷◌, length, Option, Some, None, refl, sym, ap, ◌∙◌, subst, arith}
 use Rattle.std.specs.Prelude.{slice_get, IfSome}
 use Rattle.dem_swap.specs.Exchange.{Snap, Terms, Cargo, Slot, Away, Empty, Full, Looks, DynamicsView, KinematicsView, Exchange, IsSoundFor, IsAnswer, AreSoundFor, IsPostedLast, HasParcel, IsSoundSlot, Counts, HasCopy, Turns, slot_alone, HasSeen, IsAlone, IsPaired, FollowsWith, Follows}
-use Rattle.dem_swap.specs.ExchangeKinds.{HoldsHome, HoldsTaken, posting, taking, delivering, collecting, dynamics_looking, kinematics_looking, kinematics_checking, accompanied, beside, raising, beginning, newcomer, opening_exchange}
+use Rattle.dem_swap.specs.ExchangeKinds.{HoldsHome, HoldsTaken, posting, taking, delivering, collecting, dynamics_looking, dynamics_checking, kinematics_looking, kinematics_checking, accompanied, beside, raising, beginning, newcomer, opening_exchange}
 
 -- an exchange by its parts
 abbrev pub at : ℕ → ℕ → Slot → DynamicsView → Option KinematicsView → Exchange
@@ -97,6 +97,15 @@ collects stop d k c f =
       sides = record { alone = s.alone; terms_are = s.terms_are; slot_sound = tt; copy_sound = s.copy_sound; saw_stop = s.saw_stop; turns = ((omega arith, omega arith, omega arith), refl) };
     }
 
+-- a number that isn't 0
+pub not_both : (n : ℕ) → n ≡ 0 → 0 < n → ⊥
+not_both n zero_is some = omega arith
+
+-- 4, where the turn word alone tells that dynamics has company
+pub collects_any : (stop : ℕ) (d : DynamicsView) (k : Option KinematicsView) (c : Cargo) → Follows (at 3 stop (Full c) d k) → Follows (at 0 stop Away (collecting d) k)
+collects_any stop d None c f = absurd (not_both 3 f.sides.turn_is (omega arith))
+collects_any stop d (Some k) c f = collects stop d k c f
+
 -- looks and the raised stop are nothing to where the parcel is
 turns_keep : (turn : ℕ) (slot : Slot) (d : DynamicsView) (k : KinematicsView) (raised : Bool) (looks looks' : Looks)
     → Turns turn slot d k → Turns turn slot (record d { raised = raised; looks = looks }) (record k { looks = looks' })
@@ -119,6 +128,21 @@ dynamics_looks turn stop slot d (Some k) n f = let s = f.sides in record {
   saw_stop = f.saw_stop;
   posted_sound = f.posted_sound;
   sides = record { alone = s.alone; terms_are = s.terms_are; slot_sound = s.slot_sound; copy_sound = s.copy_sound; saw_stop = s.saw_stop; turns = turns_keep turn slot d k d.raised (dynamics_looking d n).looks k.looks s.turns };
+}
+
+-- 5 of dynamics at the stop word
+pub dynamics_checks : (turn stop : ℕ) (slot : Slot) (d : DynamicsView) (k : Option KinematicsView) → Follows (at turn stop slot d k) → Follows (at turn stop slot (dynamics_checking d stop) k)
+dynamics_checks turn stop slot d None f = let s = f.sides in record {
+  stop_is = f.stop_is;
+  saw_stop = λ e. e;
+  posted_sound = f.posted_sound;
+  sides = record { alone = s.alone; turn_is = s.turn_is; none_posted = s.none_posted; none_collected = s.none_collected; slot_is = s.slot_is };
+}
+dynamics_checks turn stop slot d (Some k) f = let s = f.sides in record {
+  stop_is = f.stop_is;
+  saw_stop = λ e. e;
+  posted_sound = f.posted_sound;
+  sides = record { alone = s.alone; terms_are = s.terms_are; slot_sound = s.slot_sound; copy_sound = s.copy_sound; saw_stop = s.saw_stop; turns = turns_keep turn slot d k d.raised (dynamics_checking d stop).looks k.looks s.turns };
 }
 
 -- 5 of kinematics, where it reads what stands at the stop word, or leaves what it saw there

@@ -1,3 +1,4 @@
 pub mod KindFacts
 pub mod CycleFacts
 pub mod SeatFacts
+pub mod LawFacts

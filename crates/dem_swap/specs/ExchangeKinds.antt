@@ -51,6 +51,10 @@ collecting d = record d { collected = d.collected + 1 }
 abbrev pub dynamics_looking : DynamicsView → ℕ → DynamicsView
 dynamics_looking d n = record d { looks = turn_seen d.looks n }
 
+-- 5 look of dynamics: at the stop word
+abbrev pub dynamics_checking : DynamicsView → ℕ → DynamicsView
+dynamics_checking d n = record d { looks = stop_seen d.looks n }
+
 -- 5 look of kinematics: at the turn word
 abbrev pub kinematics_looking : KinematicsView → ℕ → KinematicsView
 kinematics_looking k n = record k { looks = turn_seen k.looks n }

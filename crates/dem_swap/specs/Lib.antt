@@ -2,3 +2,4 @@ pub mod Exchange
 pub mod ExchangeKinds
 pub mod Cycle
 pub mod Seats
+pub mod ExchangeSteps

@@ -2,6 +2,7 @@
 #![tactic(auto)]
 
 mod known;
+mod laws;
 mod opening;
 mod parcel;
 mod plays;
@@ -9,6 +10,7 @@ mod seats;
 mod swap;
 
 pub use known::{Dynamics, Kinematics, View};
+pub use laws::exchange_law;
 pub use parcel::Parcel;
 pub use plays::Cycle;
 pub use seats::{DynSeat, KinSeat};

@@ -36,7 +36,7 @@ by_dynamics slots d h i f then goes s c _ seated _ =
     let same : c.dynamics ≡ d = ap dynamics_in (some-injective (OfDynamics c.dynamics) (OfDynamics d) there) in
     let table : s ≡ table_of c.turn c.stop c.home d c.kinematics = c.table ∙ ap (λ (x : DynamicsView). table_of c.turn c.stop c.home x c.kinematics) same in
     subst (λ (x : Table). Goes x 0 (OfDynamics d, h) i f then) (sym table)
-        (goes c.turn c.stop c.home c.kinematics (subst (λ (x : DynamicsView). Follows (exchange_of c.turn c.stop c.home x c.kinematics)) same c.follows))
+    (goes c.turn c.stop c.home c.kinematics (subst (λ (x : DynamicsView). Follows (exchange_of c.turn c.stop c.home x c.kinematics)) same c.follows))
 
 abbrev IsDynamics : View → Type 0
 IsDynamics (OfDynamics d) = Unit {0}
@@ -59,7 +59,7 @@ by_kinematics slots id k h i f then goes s c _ seated _ =
     let w = second id c.dynamics c.kinematics k there in
     let table : s ≡ table_of c.turn c.stop c.home c.dynamics (Some k) = c.table ∙ ap (table_of c.turn c.stop c.home c.dynamics) w.1 in
     subst (λ (z : Table × ℕ). Goes z.0 z.1 (OfKinematics k, h) i f then) (λ j. (sym table j, sym w.0 j))
-        (goes c.turn c.stop c.home c.dynamics (subst (λ (x : Option KinematicsView). Follows (exchange_of c.turn c.stop c.home c.dynamics x)) w.1 c.follows))
+    (goes c.turn c.stop c.home c.dynamics (subst (λ (x : Option KinematicsView). Follows (exchange_of c.turn c.stop c.home c.dynamics x)) w.1 c.follows))
 
 abbrev snap_carried : Option Parcel → Snap
 snap_carried None = record { step = 0; bodies = [] }
@@ -106,16 +106,16 @@ pub take_allowed : (slots id : ℕ) (k : KinematicsView) (h : List (ℕ × Optio
 take_allowed slots id k h =
     let then : ℕ → Side → Type 0 = Takes (step slots 0 1 2 none) (OfKinematics k, h) in
     by_kinematics slots id k h 0 (λ n. either (n == 1) 2 n) then (λ turn stop place d f. dite (ℕ_discrete turn 1)
-        (λ hit. subst (λ (n : ℕ). Goes (table_of n stop place d (Some k)) 1 (OfKinematics k, h) 0 (λ n. either (n == 1) 2 n) then) (sym hit)
-            (take_hit slots stop place d k h (subst (λ (n : ℕ). Follows (exchange_of n stop place d (Some k))) hit f)))
-        (λ miss. (
-          OfKinematics (kinematics_looking k turn),
-          keeps,
-          tt,
-          subst (λ b. KeepsCycle (stepped (table_of turn stop place d (Some k)) 0 (either b 2 turn) 1 h (OfKinematics (kinematics_looking k turn)) keeps)) (sym (ne_eqb turn 1 miss))
-              (keeps_rule turn stop place d (Some (kinematics_looking k turn)) (kinds.kinematics_looks_at_turn turn stop (slot_of place) d k turn f)),
-          ((λ hit. absurd (miss hit)), λ ne. refl),
-        )))
+    (λ hit. subst (λ (n : ℕ). Goes (table_of n stop place d (Some k)) 1 (OfKinematics k, h) 0 (λ n. either (n == 1) 2 n) then) (sym hit)
+    (take_hit slots stop place d k h (subst (λ (n : ℕ). Follows (exchange_of n stop place d (Some k))) hit f)))
+    (λ miss. (
+      OfKinematics (kinematics_looking k turn),
+      keeps,
+      tt,
+      subst (λ b. KeepsCycle (stepped (table_of turn stop place d (Some k)) 0 (either b 2 turn) 1 h (OfKinematics (kinematics_looking k turn)) keeps)) (sym (ne_eqb turn 1 miss))
+          (keeps_rule turn stop place d (Some (kinematics_looking k turn)) (kinds.kinematics_looks_at_turn turn stop (slot_of place) d k turn f)),
+      ((λ hit. absurd (miss hit)), λ ne. refl),
+    )))
 
 -- 3
 pub deliver_allowed : (slots id : ℕ) (k : KinematicsView) (p : Parcel) → HoldsTaken k (snap_of p.snap) → IsAnswer k.terms (cargo_of p)
@@ -159,16 +159,16 @@ pub collect_allowed : (slots : ℕ) (d : DynamicsView) (h : List (ℕ × Option 
 collect_allowed slots d h =
     let then : ℕ → Side → Type 0 = Collects (step slots 0 3 0 none) (OfDynamics d, h) in
     by_dynamics slots d h 0 (λ n. either (n == 3) 0 n) then (λ turn stop place k f. dite (ℕ_discrete turn 3)
-        (λ hit. subst (λ (n : ℕ). Goes (table_of n stop place d k) 0 (OfDynamics d, h) 0 (λ n. either (n == 3) 0 n) then) (sym hit)
-            (collect_found slots stop place d k h (subst (λ (n : ℕ). Follows (exchange_of n stop place d k)) hit f)))
-        (λ miss. (
-          OfDynamics (dynamics_looking d turn),
-          keeps,
-          tt,
-          subst (λ b. KeepsCycle (stepped (table_of turn stop place d k) 0 (either b 0 turn) 0 h (OfDynamics (dynamics_looking d turn)) keeps)) (sym (ne_eqb turn 3 miss))
-              (keeps_rule turn stop place (dynamics_looking d turn) k (kinds.dynamics_looks turn stop (slot_of place) d k turn f)),
-          ((λ hit. absurd (miss hit)), λ ne. refl),
-        )))
+    (λ hit. subst (λ (n : ℕ). Goes (table_of n stop place d k) 0 (OfDynamics d, h) 0 (λ n. either (n == 3) 0 n) then) (sym hit)
+    (collect_found slots stop place d k h (subst (λ (n : ℕ). Follows (exchange_of n stop place d k)) hit f)))
+    (λ miss. (
+      OfDynamics (dynamics_looking d turn),
+      keeps,
+      tt,
+      subst (λ b. KeepsCycle (stepped (table_of turn stop place d k) 0 (either b 0 turn) 0 h (OfDynamics (dynamics_looking d turn)) keeps)) (sym (ne_eqb turn 3 miss))
+          (keeps_rule turn stop place (dynamics_looking d turn) k (kinds.dynamics_looks turn stop (slot_of place) d k turn f)),
+      ((λ hit. absurd (miss hit)), λ ne. refl),
+    )))
 
 -- 5
 pub check_allowed : (slots id : ℕ) (k : KinematicsView) (h : List (ℕ × Option Parcel)) → Allows KeepsCycle slots id (OfKinematics k, h) 1 (λ n. n) (Checks (step slots 1 0 0 none) (OfKinematics k, h))
@@ -235,7 +235,7 @@ split_allowed t s c seated =
     let same : c.dynamics ≡ d = ap dynamics_in (some-injective (OfDynamics c.dynamics) (OfDynamics d) there) in
     let table : s ≡ table_of c.turn c.stop c.home d c.kinematics = c.table ∙ ap (λ (x : DynamicsView). table_of c.turn c.stop c.home x c.kinematics) same in
     subst (λ (x : Table). KeepsCycle (record { words = x.words; homes = x.homes; views = slice_set x.views 0 (left_of (OfDynamics d)) ++ right_of (OfDynamics d) ∷ [] })) (sym table)
-        (split_found c.turn c.stop c.home t c.kinematics (subst (λ (x : DynamicsView). Follows (exchange_of c.turn c.stop c.home x c.kinematics)) same c.follows))
+    (split_found c.turn c.stop c.home t c.kinematics (subst (λ (x : DynamicsView). Follows (exchange_of c.turn c.stop c.home x c.kinematics)) same c.follows))
 
 -- the table as it opens
 pub opens_table : KeepsCycle (record { words = 0 ∷ 0 ∷ []; homes = some None ∷ []; views = OfDynamics newcomer ∷ [] })

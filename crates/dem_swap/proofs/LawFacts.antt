@@ -19,7 +19,7 @@ pub kept : (kind : Kind) (x y : Exchange) → Follows x → Leads kind x y → F
 kept (Post c) x y f l = subst Follows (sym l.becomes) (kinds.posts x.turn x.stop x.slot x.dynamics x.kinematics c l.in_company l.home l.sound f)
 kept Take x y f l = subst Follows (sym l.becomes)
     (kinds.takes x.stop x.dynamics l.view l.cargo
-        (with_kinematics (record x { turn = 1; slot = Full l.cargo }) (Some l.view) l.kinematics_is (with_slot (record x { turn = 1 }) (Full l.cargo) l.slot_is (with_turn x 1 l.turn_is f))))
+    (with_kinematics (record x { turn = 1; slot = Full l.cargo }) (Some l.view) l.kinematics_is (with_slot (record x { turn = 1 }) (Full l.cargo) l.slot_is (with_turn x 1 l.turn_is f))))
 kept (Deliver c) x y f l = subst Follows (sym l.becomes) (kinds.delivers x.turn x.stop x.slot x.dynamics l.view c l.taken l.answer (with_kinematics x (Some l.view) l.kinematics_is f))
 kept Collect x y f l = subst Follows (sym l.becomes) (kinds.collects_any x.stop x.dynamics x.kinematics l.cargo (with_slot (record x { turn = 3 }) (Full l.cargo) l.slot_is (with_turn x 3 l.turn_is f)))
 kept DynamicsSeesTurn x y f l = subst Follows (sym l) (kinds.dynamics_looks x.turn x.stop x.slot x.dynamics x.kinematics x.turn f)

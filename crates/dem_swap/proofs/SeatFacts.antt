@@ -16,25 +16,25 @@ use Rattle.dem_swap.proofs.CycleFacts.{post_allowed, take_allowed, deliver_allow
 pub raise_from : (slots id : ℕ) (m : Side) → IsDynSeat id m → Allows KeepsCycle slots id m 1 (λ _. 1) (λ _. Raises (step slots 1 1 0 none) m 1)
 raise_from slots id m seat =
     subst (λ (z : ℕ × Side). Allows KeepsCycle slots z.0 z.1 1 (λ _. 1) (λ _. Raises (step slots 1 1 0 none) z.1 1)) (λ j. (sym seat.first j, (sym seat.view_is j, m.1)))
-        (raise_allowed slots (dynamics_in m.0) m.1)
+    (raise_allowed slots (dynamics_in m.0) m.1)
 
 -- a collect
 pub collect_from : (slots id : ℕ) (m : Side) → IsDynSeat id m → Allows KeepsCycle slots id m 0 (λ n. either (n == 3) 0 n) (Collects (step slots 0 3 0 none) m)
 collect_from slots id m seat =
     subst (λ (z : ℕ × Side). Allows KeepsCycle slots z.0 z.1 0 (λ n. either (n == 3) 0 n) (Collects (step slots 0 3 0 none) z.1)) (λ j. (sym seat.first j, (sym seat.view_is j, m.1)))
-        (collect_allowed slots (dynamics_in m.0) m.1)
+    (collect_allowed slots (dynamics_in m.0) m.1)
 
 -- a take
 pub take_from : (slots id : ℕ) (m : Side) → IsKinSeat m → Allows KeepsCycle slots id m 0 (λ n. either (n == 1) 2 n) (Takes (step slots 0 1 2 none) m)
 take_from slots id m seat =
     subst (λ (z : Side). Allows KeepsCycle slots id z 0 (λ n. either (n == 1) 2 n) (Takes (step slots 0 1 2 none) z)) (λ j. (sym seat.view_is j, m.1))
-        (take_allowed slots id (kinematics_in m.0) m.1)
+    (take_allowed slots id (kinematics_in m.0) m.1)
 
 -- a look at the stop word
 pub check_from : (slots id : ℕ) (m : Side) → IsKinSeat m → Allows KeepsCycle slots id m 1 (λ n. n) (Checks (step slots 1 0 0 none) m)
 check_from slots id m seat =
     subst (λ (z : Side). Allows KeepsCycle slots id z 1 (λ n. n) (Checks (step slots 1 0 0 none) z)) (λ j. (sym seat.view_is j, m.1))
-        (check_allowed slots id (kinematics_in m.0) m.1)
+    (check_allowed slots id (kinematics_in m.0) m.1)
 
 -- what a seat of dynamics that holds the parcel has once the parcel lies in the slot
 pub filled_home : (id : ℕ) (m n : Side) (v : DynamicsView) (p : Parcel) → IsDynSeat id m → dynamics_in m.0 ≡ v → n ≡ (m.0, (0, Some p) ∷ rest m.1) → HoldsHome v

@@ -10,5 +10,4 @@ pub fn exchange_law()
     ensures always { (x : Exchange) → Reached x → Follows x }
     ensures posted { (x : Exchange) (c : Cargo) → Follows x → x.turn ≡ 1 → x.slot ≡ Full c → IsPostedLast x.dynamics c.snap × IsSoundFor x.dynamics.terms c.snap }
     ensures delivered { (x : Exchange) (c : Cargo) → Follows x → x.turn ≡ 3 → x.slot ≡ Full c → IsPostedLast x.dynamics c.snap × IsAnswer x.dynamics.terms c }
-{
-}
+{}

@@ -73,5 +73,9 @@ fn begin<J: Meant>(
     let mut first = seat;
     table.shared.load::<Begin<J>>(&mut first, TURN);
     let second = table.shared.split_seat::<Company>(&mut first);
-    (Swap { table }, DynSeat { seat: first }, KinSeat { seat: second })
+    (
+        Swap { table },
+        DynSeat { seat: first },
+        KinSeat { seat: second },
+    )
 }

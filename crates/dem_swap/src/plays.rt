@@ -1,16 +1,16 @@
 //! The rule of the table, and what each of its steps tells.
 
 ghost use Rattle.dem_swap.specs.Cycle.{
-    KeepsCycle,
-    Posts,
-    Takes,
-    Delivers,
-    Collects,
-    Checks,
-    Raises,
-    Begins,
-    left_of,
-    right_of,
+  KeepsCycle,
+  Posts,
+  Takes,
+  Delivers,
+  Collects,
+  Checks,
+  Raises,
+  Begins,
+  left_of,
+  right_of,
 };
 
 use crate::known::View;

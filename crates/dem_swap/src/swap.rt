@@ -1,20 +1,20 @@
 //! The exchange: a turn word, a stop word, and one slot for the parcel.
 
-ghost use Rattle.std.specs.Prelude.{◌≡◌, ◌≢◌, ◌↔◌, ℕ, true, MatchOption};
+ghost use Rattle.std.specs.Prelude.{◌≡◌, ◌≢◌, ◌↔◌, ℕ, true, IfSome, IfNone};
 ghost use Rattle.dem_swap.specs.Cycle.{snap_of, cargo_of};
 ghost use Rattle.dem_swap.specs.Exchange.{IsSoundFor, IsPostedLast, IsAnswer};
 ghost use Rattle.dem_swap.specs.ExchangeKinds.{
-    HoldsHome,
-    HasPosted,
-    HoldsTaken,
-    posting,
-    taking,
-    delivering,
-    collecting,
-    dynamics_looking,
-    kinematics_looking,
-    kinematics_checking,
-    raising,
+  HoldsHome,
+  HasPosted,
+  HoldsTaken,
+  posting,
+  taking,
+  delivering,
+  collecting,
+  dynamics_looking,
+  kinematics_looking,
+  kinematics_checking,
+  raising,
 };
 
 use crate::known::View;
@@ -31,17 +31,23 @@ pub(crate) const TURN: usize = 0;
 /// The place of the stop word.
 const STOP: usize = 1;
 
-/// Dynamics holds the parcel.
+/// The place of the slot.
+const SLOT: usize = 0;
+
+/// Turn word: dynamics holds the parcel.
 const HOME: u64 = 0;
 
-/// The parcel was posted.
+/// Turn word: the parcel was posted.
 const POSTED: u64 = 1;
 
-/// Kinematics holds the parcel.
+/// Turn word: kinematics holds the parcel.
 const HELD: u64 = 2;
 
-/// The parcel was delivered.
+/// Turn word: the parcel was delivered.
 const DELIVERED: u64 = 3;
+
+/// Stop word: the stop was raised.
+const RAISED: u64 = 1;
 
 /// The exchange of one parcel between two threads, seen as the table that it is.
 #[derive(Drop)]
@@ -69,7 +75,7 @@ impl Swap {
         ensures { seat.new ≡ record seat.old { view = posting seat.old.view (snap_of parcel.snap) } }
     {
         let shared = &self.table.shared;
-        drop(shared.exchange(&mut seat.seat, 0, Some(parcel)));
+        drop(shared.exchange(&mut seat.seat, SLOT, Some(parcel)));
         shared.store::<Post>(&mut seat.seat, TURN, POSTED);
     }
 
@@ -78,17 +84,15 @@ impl Swap {
     pub fn collect(&self, seat: &mut DynSeat) -> Option<Parcel>
         requires seat { seat.old.table ≡ self.now }
         requires posted { HasPosted seat.old.view }
-        ensures seat { MatchOption result
-            ((n : ℕ) × (n ≢ 3) × (seat.new ≡ record seat.old { view = dynamics_looking seat.old.view n }))
-            (λ p. seat.new ≡ record seat.old { view = collecting seat.old.view }) }
-        ensures parcel { MatchOption result (Unit {0}) (λ p. IsPostedLast seat.old.view (snap_of p.snap) × IsAnswer seat.old.view.terms (cargo_of p)) }
+        ensures none { IfNone result ((n : ℕ) × (n ≢ 3) × (seat.new ≡ record seat.old { view = dynamics_looking seat.old.view n })) }
+        ensures collected { IfSome result (λ p. seat.new ≡ record seat.old { view = collecting seat.old.view }) }
+        ensures snapshot { IfSome result (λ p. IsPostedLast seat.old.view (snap_of p.snap)) }
+        ensures list { IfSome result (λ p. IsAnswer seat.old.view.terms (cargo_of p)) }
     {
         let shared = &self.table.shared;
-        let found = shared.compare_exchange::<Collect>(&mut seat.seat, TURN, DELIVERED, HOME);
-        if found == DELIVERED {
-            shared.exchange(&mut seat.seat, 0, None)
-        } else {
-            None
+        match shared.compare_exchange::<Collect>(&mut seat.seat, TURN, DELIVERED, HOME) {
+            DELIVERED => shared.exchange(&mut seat.seat, SLOT, None),
+            _ => None,
         }
     }
 
@@ -97,24 +101,23 @@ impl Swap {
         requires seat { seat.old.table ≡ self.now }
         ensures { seat.new ≡ record seat.old { view = raising seat.old.view } }
     {
-        self.table.shared.store::<Raise>(&mut seat.seat, STOP, 1);
+        self.table
+            .shared
+            .store::<Raise>(&mut seat.seat, STOP, RAISED);
     }
 
     /// Tries once to take the parcel; its snapshot is sound. None exactly where the turn word that was read wasn't 1; the seat
     /// keeps that number.
     pub fn take(&self, seat: &mut KinSeat) -> Option<Parcel>
         requires seat { seat.old.table ≡ self.now }
-        ensures seat { MatchOption result
-            ((n : ℕ) × (n ≢ 1) × (seat.new ≡ record seat.old { view = kinematics_looking seat.old.view n }))
-            (λ p. seat.new ≡ record seat.old { view = taking seat.old.view (snap_of p.snap) }) }
-        ensures sound { MatchOption result (Unit {0}) (λ p. IsSoundFor seat.old.view.terms (snap_of p.snap)) }
+        ensures none { IfNone result ((n : ℕ) × (n ≢ 1) × (seat.new ≡ record seat.old { view = kinematics_looking seat.old.view n })) }
+        ensures taken { IfSome result (λ p. seat.new ≡ record seat.old { view = taking seat.old.view (snap_of p.snap) }) }
+        ensures sound { IfSome result (λ p. IsSoundFor seat.old.view.terms (snap_of p.snap)) }
     {
         let shared = &self.table.shared;
-        let found = shared.compare_exchange::<Take>(&mut seat.seat, TURN, POSTED, HELD);
-        if found == POSTED {
-            shared.exchange(&mut seat.seat, 0, None)
-        } else {
-            None
+        match shared.compare_exchange::<Take>(&mut seat.seat, TURN, POSTED, HELD) {
+            POSTED => shared.exchange(&mut seat.seat, SLOT, None),
+            _ => None,
         }
     }
 
@@ -126,7 +129,7 @@ impl Swap {
         ensures { seat.new ≡ record seat.old { view = delivering seat.old.view } }
     {
         let shared = &self.table.shared;
-        drop(shared.exchange(&mut seat.seat, 0, Some(parcel)));
+        drop(shared.exchange(&mut seat.seat, SLOT, Some(parcel)));
         shared.store::<Deliver>(&mut seat.seat, TURN, DELIVERED);
     }
 
@@ -136,6 +139,6 @@ impl Swap {
         ensures seat { seat.new ≡ record seat.old { view = kinematics_checking seat.old.view seat.new.view.looks.saw_stop } }
         ensures read { (result ≡ true) ↔ (seat.new.view.looks.saw_stop ≡ 1) }
     {
-        self.table.shared.load::<Check>(&mut seat.seat, STOP) == 1
+        self.table.shared.load::<Check>(&mut seat.seat, STOP) == RAISED
     }
 }

@@ -1,7 +1,7 @@
 -- The exchange between the two threads: what each side knows, the rule that always holds, and what each kind of step changes.
 use Rattle.std.specs.Prelude.{ℕ, zero, suc, ◌+◌, ◌≡◌, ◌⊎◌, Bool, true, false, List, [], ◌∷◌, length, slice_get, Option, Some, None, IfSome, if◌then◌else◌}
 use Rattle.dem_model.specs.SceneValue.{SceneValue}
-use Rattle.dem_model.specs.Centres.{centres_of}
+use Rattle.dem_model.specs.Centers.{centers_of}
 use Rattle.dem_model.specs.Motion.{AreSound}
 use Rattle.dem_model.specs.Near.{near_of}
 use Rattle.dem_model.specs.declared.state.Body.{Body}
@@ -71,10 +71,10 @@ abbrev pub IsSoundFor : Option Terms → Snap → Type 0
 IsSoundFor None s = ⊥
 IsSoundFor (Some t) s = AreSound t.scene s.bodies
 
--- a list is near of a snapshot: it was made from its step, and has exactly the near pairs of its centres
+-- a list is near of a snapshot: it was made from its step, and has exactly the near pairs of its centers
 pub record IsNearOf (t : Terms) (s : Snap) (from : ℕ) (pairs : List Pair) : Type 0 where
   pub from_is : from ≡ s.step
-  pub pairs_are : pairs ≡ near_of t.scene t.drift (centres_of t.scene s.bodies)
+  pub pairs_are : pairs ≡ near_of t.scene t.drift (centers_of t.scene s.bodies)
 
 -- a list is near of a snapshot by the terms
 abbrev pub IsNearFor : Option Terms → Snap → ℕ → List Pair → Type 0

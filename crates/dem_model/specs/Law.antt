@@ -9,13 +9,14 @@ use Rattle.dem_model.specs.declared.law.Law.{Law}
 use Rattle.dem_model.specs.declared.law.Push.{Push}
 use Rattle.dem_model.specs.declared.law.Side.{Side}
 use Rattle.dem_model.specs.declared.law.Touch.{Touch}
+use Rattle.dem_model.specs.declared.limits.TheConstants.{MAX_DISPLACEMENT, MAX_FORCE}
 use Rattle.dem_model.specs.Mixing.{radius_between, mass_between}
 
 -- the radius of the contact's circle: the root of the effective radius times the overlap
 unfoldable pub contact_radius_of : ℕ → ℕ → ℕ
 contact_radius_of radius delta = root_of (radius * delta)
 
--- from a sphere's centre to the contact: the radius less half the overlap
+-- from a sphere's center to the contact: the radius less half the overlap
 unfoldable pub depth_of : ℕ → ℕ → ℕ
 depth_of r delta = r - delta / 2
 
@@ -24,21 +25,21 @@ abbrev pub along : ℤ → Vec3 → Wide3
 along length n = shifted_each (scaled length (widened n)) 30
 
 -- from the first clump's position to the contact
-unfoldable pub lever_a_of : Side → Vec3 → ℕ → Wide3
-lever_a_of a n delta = difference_of (widened a.lever) (along (pos (depth_of a.r delta)) n)
+unfoldable pub branch_a_of : Side → Vec3 → ℕ → Wide3
+branch_a_of a n delta = difference_of (widened a.lever) (along (pos (depth_of a.r delta)) n)
 
 -- from the second clump's position to the contact
-unfoldable pub lever_b_of : Side → Vec3 → ℕ → Wide3
-lever_b_of b n delta = sum_of (widened b.lever) (along (pos (depth_of b.r delta)) n)
+unfoldable pub branch_b_of : Side → Vec3 → ℕ → Wide3
+branch_b_of b n delta = sum_of (widened b.lever) (along (pos (depth_of b.r delta)) n)
 
--- the velocity of a side at the contact: that of its clump and that of its spin on the lever
+-- the velocity of a side at the contact: that of its clump and that of its spin on the branch
 unfoldable pub surface_velocity_of : Side → Wide3 → Wide3
-surface_velocity_of side lever = sum_of (widened side.v) (shifted_each (cross_of (widened side.spin) lever) 14)
+surface_velocity_of side branch = sum_of (widened side.v) (shifted_each (cross_of (widened side.spin) branch) 14)
 
 -- the velocity of the first side against the second; a wall has none
 unfoldable pub relative_velocity_of : Side → Side → Vec3 → ℕ → Wide3
 relative_velocity_of a b n delta =
-    difference_of (surface_velocity_of a (lever_a_of a n delta)) (surface_velocity_of b (lever_b_of b n delta))
+    difference_of (surface_velocity_of a (branch_a_of a n delta)) (surface_velocity_of b (branch_b_of b n delta))
 
 -- the part of a vector along the normal, as a number
 unfoldable pub along_normal : Vec3 → Wide3 → ℤ
@@ -59,16 +60,16 @@ damping_of ratio stiffness c mass speed = shifted (pos (ratio * root_of (stiffne
 -- the normal force: elastic less damping, never pulling
 unfoldable pub normal_force_of : Law → ℕ → ℕ → ℕ → ℤ → ℕ
 normal_force_of law c delta mass speed =
-    unsigned_abs (int_max (pos 0) (int_min (elastic_force_of law.kn c delta -ℤ damping_of law.bn law.kn c mass speed) (pos (2 ^ 62))))
+    unsigned_abs (int_max (pos 0) (int_min (elastic_force_of law.kn c delta -ℤ damping_of law.bn law.kn c mass speed) (pos MAX_FORCE)))
 
 -- the displacement carried into this step: what is stored, brought across the normal, and what the step adds
 unfoldable pub carried_of : Vec3 → Wide3 → Vec3 → Vec3
-carried_of n slip h0 = narrowed (clamped_each (sum_of (across_normal n (widened h0)) slip) (pos (2 ^ 40)))
+carried_of n slip h0 = narrowed (clamped_each (sum_of (across_normal n (widened h0)) slip) (pos MAX_DISPLACEMENT))
 
 -- a component of the tangential force before friction bounds it
 unfoldable pub trial_component : ℕ → ℕ → ℕ → ℕ → ℤ → ℤ → ℤ
 trial_component kt bt c mass h slip =
-    clamped (opposite (shifted (pos (kt * c) *ℤ h) 32) -ℤ damping_of bt kt c mass slip) (pos (2 ^ 62))
+    clamped (opposite (shifted (pos (kt * c) *ℤ h) 32) -ℤ damping_of bt kt c mass slip) (pos MAX_FORCE)
 
 -- the tangential force before friction bounds it: elastic and damped
 unfoldable pub trial_of : Law → ℕ → ℕ → Vec3 → Wide3 → Wide3
@@ -99,19 +100,19 @@ held_after kt bound trial h =
 unfoldable pub force_of : Vec3 → ℕ → Wide3 → Wide3
 force_of n normal_force friction = sum_of (along (pos normal_force) n) friction
 
--- the torque of friction about a sphere's centre, which both sides feel the same way
-unfoldable pub rolling_of : ℕ → Vec3 → Wide3 → Wide3
-rolling_of depth n friction = shifted_each (scaled (pos depth) (cross_of (widened n) friction)) 30
+-- the torque of friction about a sphere's center, which both sides feel the same way
+unfoldable pub friction_torque_of : ℕ → Vec3 → Wide3 → Wide3
+friction_torque_of depth n friction = shifted_each (scaled (pos depth) (cross_of (widened n) friction)) 30
 
 -- the torque on the first clump about its position
 unfoldable pub torque_a_of : Side → Vec3 → ℕ → Wide3 → Wide3 → Wide3
 torque_a_of a n delta force friction =
-    difference_of (cross_of (widened a.lever) force) (rolling_of (depth_of a.r delta) n friction)
+    difference_of (cross_of (widened a.lever) force) (friction_torque_of (depth_of a.r delta) n friction)
 
 -- the torque on the second clump about its position
 unfoldable pub torque_b_of : Side → Vec3 → ℕ → Wide3 → Wide3 → Wide3
 torque_b_of b n delta force friction =
-    difference_of (opposed (cross_of (widened b.lever) force)) (rolling_of (depth_of b.r delta) n friction)
+    difference_of (opposed (cross_of (widened b.lever) force)) (friction_torque_of (depth_of b.r delta) n friction)
 
 -- the force and the torques of a contact whose normal force, trial and displacement are known
 unfoldable pub push_with : Law → Side → Side → Vec3 → ℕ → ℕ → Vec3 → Wide3 → Push

@@ -4,11 +4,12 @@ pub mod Spheres
 pub mod Sound
 pub mod Pairs
 pub mod Touch
-pub mod Centres
+pub mod Centers
 pub mod Mixing
 pub mod Law
 pub mod Advance
 pub mod Step
+pub mod Counts
 pub mod Plain
 pub mod Motion
 pub mod ReadingNames

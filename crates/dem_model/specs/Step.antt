@@ -1,5 +1,5 @@
 -- The plain step: every pair is tested, each touching pair pushes, the pushes are summed, and each body advances.
-use Rattle.std.specs.Prelude.{ℕ, ◌+◌, ◌==◌, Bool, false, ◌&&◌, List, [], ◌∷◌, length, map, fold, find, Option, Result, Ok, Err, nat_lt, slice_index_or, unwrap_or, if◌then◌else◌}
+use Rattle.std.specs.Prelude.{ℕ, ◌+◌, ◌==◌, Bool, false, ◌&&◌, List, [], ◌∷◌, length, map, drop, fold, find, Option, Result, Ok, Err, nat_lt, slice_index_or, unwrap_or, if◌then◌else◌}
 use Rattle.std.specs.List.{filter_map, range_with_len}
 use Rattle.std.specs.Option.{option_map}
 use Rattle.dem_num.specs.declared.vector.Vec3.{Vec3}
@@ -8,7 +8,7 @@ use Rattle.dem_num.specs.Vectors.{widened, narrowed, no_vector, sum_of, opposed}
 use Rattle.dem_num.specs.Rotations.{turned_of}
 use Rattle.dem_model.specs.SceneValue.{SceneValue}
 use Rattle.dem_model.specs.Pairs.{sphere_count, sphere_at, wall_at, all_pairs}
-use Rattle.dem_model.specs.Centres.{body_at, centres_of, touch_of}
+use Rattle.dem_model.specs.Centers.{still_body, body_at, centers_of, touch_of}
 use Rattle.dem_model.specs.Mixing.{mixed_of}
 use Rattle.dem_model.specs.Law.{contact_of}
 use Rattle.dem_model.specs.Ranges.{wall_side_of}
@@ -68,20 +68,20 @@ abbrev pub clump_of_sphere : SceneValue → ℕ → Clump
 clump_of_sphere s i = clump_at s (sphere_at s i).clump
 
 -- the side of a sphere by its number, where its clump has this body
-unfoldable pub side_from : SceneValue → Body → ℕ → Side
-side_from s b i = side_with (mass_of s.templates (clump_of_sphere s i).t) b (sphere_at s i).ball
+unfoldable pub side_of : SceneValue → Body → ℕ → Side
+side_of s b i = side_with (mass_of s.templates (clump_of_sphere s i).t) b (sphere_at s i).ball
 
 -- the side of a sphere by its number
-unfoldable pub side_of : SceneValue → List Body → ℕ → Side
-side_of s bodies i = side_from s (body_at bodies (sphere_at s i).clump) i
+unfoldable pub side_at : SceneValue → List Body → ℕ → Side
+side_at s bodies i = side_of s (body_at bodies (sphere_at s i).clump) i
 
 -- the second side of a pair
 unfoldable pub second_side_of : SceneValue → List Body → Pair → Side
-second_side_of s bodies p = if nat_lt p.b (sphere_count s) then side_of s bodies p.b else wall_side_of
+second_side_of s bodies p = if nat_lt p.b (sphere_count s) then side_at s bodies p.b else wall_side_of
 
 -- what a touching pair does, with the displacement stored for it
 unfoldable pub push_of : SceneValue → List Body → Pair → Touch → Vec3 → Push
-push_of s bodies p t h = contact_of (law_of s p) (side_of s bodies p.a) (second_side_of s bodies p) t h
+push_of s bodies p t h = contact_of (law_of s p) (side_at s bodies p.a) (second_side_of s bodies p) t h
 
 -- a pair that touches, and what it does
 pub record Meeting : Type 0 where
@@ -98,12 +98,12 @@ held_at es p = option_map (λ (e : Held). e.h) (find (λ (e : Held). same_pair e
 
 -- the meeting of a pair, where it touches
 unfoldable pub meeting : SceneValue → List Body → List Vec3 → Pair → Option Vec3 → Option Meeting
-meeting s bodies centres p h =
-    option_map (λ (t : Touch). record { pair = p; push = push_of s bodies p t (unwrap_or h (narrowed no_vector)) }) (touch_of s centres p)
+meeting s bodies centers p h =
+    option_map (λ (t : Touch). record { pair = p; push = push_of s bodies p t (unwrap_or h (narrowed no_vector)) }) (touch_of s centers p)
 
 -- the meetings among these pairs, in their order
 unfoldable pub meetings : SceneValue → List Body → List Vec3 → List Held → List Pair → List Meeting
-meetings s bodies centres held ps = filter_map (λ p. meeting s bodies centres p (held_at held p)) ps
+meetings s bodies centers held ps = filter_map (λ p. meeting s bodies centers p (held_at held p)) ps
 
 -- no force and no torque
 abbrev pub no_load : Load
@@ -131,6 +131,10 @@ load_with s c w m =
 unfoldable pub load_on : SceneValue → List Meeting → ℕ → Load
 load_on s ms c = fold (load_with s c) no_load ms
 
+-- the load of each clump with one more meeting
+unfoldable pub loads_with : SceneValue → List Load → Meeting → List Load
+loads_with s ws m = map (λ c. load_with s c (slice_index_or ws c no_load) m) (range_with_len 0 (length ws))
+
 -- what each clump feels of these meetings
 unfoldable pub loads_of : SceneValue → List Meeting → List Load
 loads_of s ms = map (load_on s ms) (range_with_len 0 (length s.clumps))
@@ -146,12 +150,21 @@ joined (Err e) rest = Err e
 joined (Ok b) (Err e) = Err e
 joined (Ok b) (Ok bs) = Ok (b ∷ bs)
 
+-- the first of some bodies; a clump for which there is none is at rest at the origin
+abbrev pub first_body : List Body → Body
+first_body [] = still_body
+first_body (b ∷ bs) = b
+
+-- the first of some loads; a clump for which there is none feels nothing
+abbrev pub first_load : List Load → Load
+first_load [] = no_load
+first_load (w ∷ ws) = w
+
 -- the bodies of the clumps from number k on after the step, or the first limit that one of them passes
 unfoldable pub advanced_from : SceneValue → ℕ → ℕ → List Clump → List Body → List Load → Result (List Body) End
 advanced_from s step k [] bs ws = Ok []
-advanced_from s step k (c ∷ cs) [] ws = Ok []
-advanced_from s step k (c ∷ cs) (b ∷ bs) [] = Ok []
-advanced_from s step k (c ∷ cs) (b ∷ bs) (w ∷ ws) = joined (ended step k (advance_of s c.t b w)) (advanced_from s step (k + 1) cs bs ws)
+advanced_from s step k (c ∷ cs) bs ws =
+    joined (ended step k (advance_of s c.t (first_body bs) (first_load ws))) (advanced_from s step (k + 1) cs (drop 1 bs) (drop 1 ws))
 
 -- the pair and the new displacement of a meeting
 unfoldable pub held_in : Meeting → Held
@@ -168,4 +181,4 @@ step_with s st ms = state_with (st.step + 1) ms (advanced_from s (st.step + 1) 0
 
 -- the plain step of a state, or its end: every pair is tested
 unfoldable pub step_of : SceneValue → State → Result State End
-step_of s st = step_with s st (meetings s st.bodies (centres_of s st.bodies) st.held (all_pairs s))
+step_of s st = step_with s st (meetings s st.bodies (centers_of s st.bodies) st.held (all_pairs s))

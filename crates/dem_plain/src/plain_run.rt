@@ -3,14 +3,14 @@
 ghost use Rattle.std.specs.Prelude.{◌≡◌, ◌<◌, ◌≤◌, length, IfOk, Some};
 ghost use Rattle.dem_model.specs.Motion.{AreInside, AreSound};
 ghost use Rattle.dem_model.specs.Plain.{first_state, plain_at};
-ghost use Rattle.dem_model.specs.Centres.{centres_of};
+ghost use Rattle.dem_model.specs.Centers.{centers_of};
 ghost use Rattle.dem_plain.specs.Run.{AreStored, MakesStep, Steps};
 
 use crate::advancing::advanced;
 use crate::met::all_met;
 use crate::stop::Stop;
-use dem_model::{Body, List, OutOfMemory, Scene, State};
-use dem_shape::{Centers, Shapes};
+use dem_model::{List, OutOfMemory, Scene, State};
+use dem_shape::{Centers, Shapes, first_bodies};
 use std::alloc::Global;
 use std::marker::Model;
 
@@ -81,21 +81,10 @@ impl<'s> PlainRun<'s> {
     }
 }
 
-/// The bodies of the clumps at the start.
-pub fn first_bodies(alloc: Global, scene: &Scene) -> Result<List<Body>, OutOfMemory>
-    ensures { IfOk result (λ bodies. bodies ≡ (first_state scene.now).bodies) }
-{
-    let mut bodies = List::new(alloc);
-    for clump in scene.clumps.as_slice() {
-        bodies.push(clump.body)?;
-    }
-    Ok(bodies)
-}
-
 /// The state after a state, or the limit that its step passes.
 fn stepped(alloc: Global, shapes: &Shapes, centers: &Centers, state: &State) -> Result<State, Stop>
     requires sound { AreSound shapes.now state.now.bodies }
-    requires centres { centers.now ≡ centres_of shapes.now state.now.bodies }
+    requires centers { centers.now ≡ centers_of shapes.now state.now.bodies }
     requires stored { AreStored state.now.held }
     requires goes_on { state.now.step < shapes.now.steps }
     ensures { Steps shapes.now state.now result }

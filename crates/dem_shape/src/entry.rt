@@ -3,9 +3,9 @@
 ghost use Rattle.std.specs.Prelude.{◌≡◌, ◌≤◌, length};
 ghost use Rattle.dem_model.specs.Sound.{IsBall};
 ghost use Rattle.dem_model.specs.Spheres.{sphere_of};
-ghost use Rattle.dem_shape.specs.Table.{entry_of};
+ghost use Rattle.dem_shape.specs.Table.{table_entry_of};
 
-use dem_model::{Ball, Scene, VOXEL};
+use dem_model::{Ball, Scene, VELOCITY_UNIT};
 use dem_turn::{arm, swing_limit};
 
 /// A sphere: its clump, what its template says of it, its arm and its movement bound, in u.
@@ -22,10 +22,10 @@ impl Entry {
     #[tactic(auto, unfolding(dem_model::specs::Motion::per_step_of))]
     pub fn new(scene: &Scene, clump: u32, ball: Ball) -> Entry
         requires { IsBall (length scene.now.materials) ball }
-        ensures { result ≡ entry_of scene.now (sphere_of clump ball) }
+        ensures { result ≡ table_entry_of scene.now (sphere_of clump ball) }
     {
         let arm = arm(ball.at);
-        let per_step = scene.speed.div_ceil(VOXEL) + swing_limit(scene.spin, arm);
+        let per_step = scene.speed.div_ceil(VELOCITY_UNIT) + swing_limit(scene.spin, arm);
         Entry {
             clump,
             ball,

@@ -16,6 +16,7 @@ ghost use Rattle.dem_num.specs.Rotations.{
   turn_step_of,
 };
 
+use crate::still::is_zero;
 use dem_num::{Quat, Vec3, add, mul, narrow, negated, quat_norm2, reciprocal, root, sub};
 
 /// The quaternion after one step with a spin in body axes, in radians times 2^30. A spin of zero keeps it.
@@ -27,11 +28,7 @@ pub fn turn_step(q: Quat, w: Vec3) -> Quat
     ensures without_spin { is_zero (widened w) ≡ true → result ≡ q }
     ensures orientation { IsOrientation result }
 {
-    if w.x == 0 && w.y == 0 && w.z == 0 {
-        q
-    } else {
-        unit(stepped(q, w))
-    }
+    if is_zero(w) { q } else { unit(stepped(q, w)) }
 }
 
 /// Where the quaternion points after the step, at another length.
@@ -110,12 +107,12 @@ fn unit(t: Quat) -> Quat
     ensures orientation { IsOrientation result }
 {
     let length = length(t);
-    let near = reciprocal(length);
+    let inverse = reciprocal(length);
     Quat {
-        a: share(t.a, length, near),
-        b: share(t.b, length, near),
-        c: share(t.c, length, near),
-        d: share(t.d, length, near),
+        a: share(t.a, length, inverse),
+        b: share(t.b, length, inverse),
+        c: share(t.c, length, inverse),
+        d: share(t.d, length, inverse),
     }
 }
 
@@ -131,13 +128,13 @@ fn length(t: Quat) -> u64
     root(quat_norm2(t))
 }
 
-/// A component's share of the length, times 2^30; the reciprocal of the length is near this one.
-fn share(component: i64, length: u64, near: u64) -> i64
+/// A component's share of the length, times 2^30; the reciprocal of the length is about `inverse`.
+fn share(component: i64, length: u64, inverse: u64) -> i64
     requires some { 0 < length }
     requires part { AtMost component length }
     ensures value { result ≡ quotient (pos (2 ^ 30) *ℤ component) (pos length) }
     ensures below { unsigned_abs result * length ≤ 2 ^ 30 * unsigned_abs component }
     ensures above { 2 ^ 30 * unsigned_abs component < (unsigned_abs result + 1) * length }
 {
-    dem_num::share(component as i128, length, near)
+    dem_num::share(component as i128, length, inverse)
 }

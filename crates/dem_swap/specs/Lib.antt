@@ -3,3 +3,4 @@ pub mod ExchangeKinds
 pub mod Cycle
 pub mod Seats
 pub mod ExchangeSteps
+pub mod Sample

@@ -6,8 +6,12 @@ mod laws;
 mod opening;
 mod parcel;
 mod plays;
+#[cfg(test)]
+mod sample;
 mod seats;
 mod swap;
+#[cfg(test)]
+mod tests;
 
 pub use known::{Dynamics, Kinematics, View};
 pub use laws::exchange_law;

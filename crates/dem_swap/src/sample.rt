@@ -1,13 +1,79 @@
-//! A scene for the tests, made without a text: one clump of one sphere at rest.
+//! A scene for the tests, made without a text: one clump at rest, of one sphere.
 
 ghost use Rattle.std.specs.Prelude.{◌≡◌, [], ◌∷◌, IfOk};
-ghost use Rattle.dem_swap.specs.Sample.{sample};
+ghost use Rattle.dem_swap.specs.Sample.{sample_template, sample_clump};
 
 use dem_model::{Ball, Body, Clump, List, Material, OutOfMemory, Scene, Template};
 use dem_num::{Quat, Vec3};
 use std::alloc::Global;
 
-const NOWHERE: Vec3 = Vec3 { x: 0, y: 0, z: 0 };
+/// The place of the clump, where the sphere has its center.
+const CORNER: Vec3 = Vec3 { x: 0, y: 0, z: 0 };
+
+/// One clump of one sphere, in a box of one voxel.
+pub fn scene(alloc: Global) -> Result<Scene, OutOfMemory> {
+    let material = Material {
+        kn: 1,
+        kt: 0,
+        bn: 0,
+        bt: 0,
+        mu: 0,
+    };
+    let materials = one(alloc, material)?;
+    let templates = one(alloc, template(alloc)?)?;
+    let clumps = one(alloc, clump())?;
+    Ok(Scene {
+        nx: 1,
+        ny: 1,
+        nz: 1,
+        steps: 1,
+        every: 1,
+        speed: 1,
+        spin: 1,
+        gravity: CORNER,
+        materials,
+        templates,
+        walls: List::new(alloc),
+        clumps,
+    })
+}
+
+/// One sphere at the clump's place.
+fn template(alloc: Global) -> Result<Template, OutOfMemory>
+    ensures { IfOk result (λ t. t ≡ sample_template) }
+{
+    let ball = Ball {
+        at: CORNER,
+        r: 1,
+        mat: 0,
+    };
+    Ok(Template {
+        mass: 1,
+        moments: Vec3 { x: 1, y: 1, z: 1 },
+        balls: one(alloc, ball)?,
+    })
+}
+
+/// A clump at rest in the corner of the box.
+fn clump() -> Clump
+    ensures { result ≡ sample_clump }
+{
+    let q = Quat {
+        a: 1 << 30,
+        b: 0,
+        c: 0,
+        d: 0,
+    };
+    Clump {
+        t: 0,
+        body: Body {
+            p: CORNER,
+            q,
+            v: CORNER,
+            w: CORNER,
+        },
+    }
+}
 
 /// A list of one value.
 fn one<T: Drop>(alloc: Global, value: T) -> Result<List<T>, OutOfMemory>

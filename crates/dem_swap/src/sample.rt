@@ -1,10 +1,13 @@
 //! A scene for the tests, made without a text: one clump at rest, of one sphere.
 
 ghost use Rattle.std.specs.Prelude.{◌≡◌, [], ◌∷◌, IfOk};
+ghost use Rattle.dem_model.specs.Motion.{AreSound};
 ghost use Rattle.dem_swap.specs.Sample.{sample_template, sample_clump};
 
+use crate::parcel::Parcel;
 use dem_model::{Ball, Body, Clump, List, Material, OutOfMemory, Scene, Template};
 use dem_num::{Quat, Vec3};
+use dem_shape::{Shapes, Snapshot, first_bodies};
 use std::alloc::Global;
 
 /// The place of the clump, where the sphere has its center.
@@ -73,6 +76,27 @@ fn clump() -> Clump
             w: CORNER,
         },
     }
+}
+
+/// The parcel, with this step and the bodies at the start.
+#[tactic(auto, using(crate::proofs::SampleFacts::start_sound))]
+pub fn filled(
+    alloc: Global,
+    shapes: &Shapes,
+    step: u32,
+    parcel: Parcel,
+) -> Result<Parcel, OutOfMemory>
+    ensures { IfOk result (λ p. AreSound shapes.now p.snap.bodies) }
+{
+    let scene = shapes.scene();
+    Ok(Parcel {
+        snap: Snapshot {
+            step,
+            bodies: first_bodies(alloc, scene)?,
+        },
+        list: parcel.list,
+        refused: parcel.refused,
+    })
 }
 
 /// A list of one value.

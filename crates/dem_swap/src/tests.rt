@@ -1,6 +1,6 @@
 //! A parcel goes round a fresh exchange, and each look tells what it read.
 
-use crate::sample::scene;
+use crate::sample::{filled, scene};
 use crate::{DynSeat, KinSeat, Parcel, Swap};
 use dem_shape::Shapes;
 use std::test::Fail;
@@ -19,9 +19,8 @@ fn may_share<T: Sync>(_value: &T) -> bool {
 fn goes_round_once(rt: HostRuntime) -> Result<(), Fail> {
     let scene = scene(rt.alloc())?;
     let shapes = Shapes::new(rt.alloc(), &scene)?;
-    let (swap, mut dynamics, mut kinematics, mut parcel) = Swap::new(rt.alloc(), &shapes, 20)?;
-    parcel.snap.bodies.set(0, scene.clumps.get(0).body);
-    parcel.snap.step = 7;
+    let (swap, mut dynamics, mut kinematics, parcel) = Swap::new(rt.alloc(), &shapes, 20)?;
+    let parcel = filled(rt.alloc(), &shapes, 7, parcel)?;
     assert!(rt; swap.take(&mut kinematics).is_none());
     swap.post(&mut dynamics, parcel);
     assert!(rt; swap.collect(&mut dynamics).is_none());

@@ -23,8 +23,10 @@ use Rattle.dem_model.specs.declared.state.Body.{Body}
 use Rattle.dem_model.specs.declared.state.Held.{Held}
 use Rattle.dem_model.specs.declared.state.Pair.{Pair}
 use Rattle.dem_model.proofs.PairFacts.{row_below-more, row_below-start, pairs_below-more, pairs_below-none}
-use Rattle.dem_model.proofs.CountFacts.{pair_count, most_pairs, pair_count-visited, pair_count-all}
-use Rattle.dem_model.proofs.LoadFacts.{loads_with, loads_of-push, length-loads_of, IsLoadOf, pairs_in, meetings_count, load_on-within}
+use Rattle.dem_model.proofs.CountFacts.{pair_count-visited, pair_count-all}
+use Rattle.dem_model.specs.Counts.{pair_count, most_pairs}
+use Rattle.dem_model.proofs.LoadFacts.{loads_of-push, length-loads_of, IsLoadOf, pairs_in, meetings_count, load_on-within}
+use Rattle.dem_model.specs.Step.{loads_with}
 use Rattle.dem_force.specs.Loads.{CanGrow, AreLoads}
 use Rattle.dem_plain.specs.declared.met.Met.{Met}
 use Rattle.dem_plain.specs.Run.{meeting_with, AreStored}

@@ -1,7 +1,6 @@
 //! The meetings of a step: the sums per clump and the new displacements, pair by pair and row by row.
 
-ghost use Rattle.std.specs.Prelude.{◌≡◌, ◌+◌, ◌<◌, ◌≤◌, ◌++◌, [], OnOk, IfOk, List, length, replicate};
-ghost use Rattle.dem_model.specs.Step.{no_load};
+ghost use Rattle.std.specs.Prelude.{◌≡◌, ◌+◌, ◌<◌, ◌≤◌, ◌++◌, [], OnOk, IfOk, List, length};
 ghost use Rattle.dem_model.specs.Motion.{AreInside, AreSound};
 ghost use Rattle.dem_model.specs.Pairs.{sphere_count, limit_of, pair_of, row_below, pairs_below, all_pairs};
 ghost use Rattle.dem_num.specs.declared.vector.Vec3.{Vec3};
@@ -13,9 +12,8 @@ ghost use Rattle.dem_plain.specs.Run.{AreStored};
 ghost use Rattle.dem_plain.specs.Holds.{Holds, one_apart};
 
 use crate::meeting::push_of;
-use dem_force::add_push;
+use dem_force::{add_push, no_loads};
 use dem_model::{Body, Held, List, Load, OutOfMemory, Pair};
-use dem_num::Wide3;
 use dem_shape::{Centers, Shapes, is_apart};
 use std::alloc::Global;
 
@@ -54,24 +52,6 @@ fn nothing_met(alloc: Global, shapes: &Shapes) -> Result<Met, OutOfMemory>
         loads: no_loads(alloc, shapes)?,
         held: List::new(alloc),
     })
-}
-
-/// A load of nothing per clump.
-pub fn no_loads(alloc: Global, shapes: &Shapes) -> Result<Vec<Load>, OutOfMemory>
-    ensures { IfOk result (λ loads. loads.items ≡ replicate (length shapes.now.clumps) no_load) }
-{
-    let nothing = Wide3 { x: 0, y: 0, z: 0 };
-    let mut loads = Vec::new(alloc);
-    for _ in 0..shapes.scene().clumps.len() {
-        let load = Load {
-            force: nothing,
-            torque: nothing,
-        };
-        if loads.push(load).is_err() {
-            return Err(OutOfMemory);
-        }
-    }
-    Ok(loads)
 }
 
 /// Adds the pairs of one sphere with all that is later.

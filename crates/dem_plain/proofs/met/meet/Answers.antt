@@ -2,7 +2,7 @@ use Rattle.std.proofs.Common.{◌≡◌, sym, ap, ◌∙◌, length, arith}
 use Rattle.std.specs.Option.{option_map}
 use Rattle.std.proofs.lemmas.List.{with_items_is}
 use Rattle.dem_model.specs.Step.{held_in}
-use Rattle.dem_model.proofs.LoadFacts.{loads_with}
+use Rattle.dem_model.specs.Step.{loads_with}
 use Rattle.dem_plain.specs.Run.{meeting_with}
 use Rattle.dem_plain.proofs.HoldsFacts.{Holds-missed, Holds-more}
 use Rattle.dem_plain.proofs.met.meet.Goals as goal

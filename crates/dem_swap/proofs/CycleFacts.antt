@@ -1,17 +1,18 @@
 -- Each step of a seat keeps the rule of the table.
-use Rattle.std.proofs.Common.{◌≡◌, ◌≢◌, ℕ, zero, suc, ◌+◌, Bool, true, false, List, [], ◌∷◌, ◌++◌, ◌==◌, length, Option, Some, None, refl, sym, ap, ◌∙◌, subst, arith, ne_eqb}
+use Rattle.std.proofs.Common.{◌≡◌, ℕ, zero, suc, true, false, List, [], ◌∷◌, ◌++◌, ◌==◌, Option, Some, None, refl, sym, ap, ◌∙◌, subst, arith, ne_eqb}
 use Rattle.std.specs.Prelude.{slice_index, slice_set}
 use mathlib.Core.Option.{Option as Home, none, some, some-injective, some-ne-none}
 use mathlib.Core.Logic.{dite}
 use native.Mathlib.Decide.{ℕ_discrete}
 use prog.Atomic.{either}
 use lib.ListN.{get_elem?}
-use Rattle.atomic_table.specs.Table.{State, Act, keeps, takes, gives, stepped, carried_after, Valid, Allows, Splits, step, rest}
+use Rattle.atomic_table.specs.Table.{State, Act, keeps, takes, gives, stepped, carried_after, Valid, Allows, Splits, step}
 use Rattle.dem_swap.specs.declared.known.View.{View}
 use Rattle.dem_swap.specs.declared.known.View.TheVariants.{OfDynamics, OfKinematics}
 use Rattle.dem_swap.specs.declared.parcel.Parcel.{Parcel}
-use Rattle.dem_swap.specs.Exchange.{Snap, Terms, Cargo, Slot, Away, Empty, Full, DynamicsView, KinematicsView, Exchange, IsSoundFor, IsAnswer, IsPostedLast, Follows}
-use Rattle.dem_swap.specs.ExchangeKinds.{HoldsHome, HasPosted, HoldsNone, HoldsTaken, posting, taking, delivering, collecting, dynamics_looking, kinematics_looking, kinematics_checking, accompanied, beside, raising, beginning, newcomer}
+use Rattle.dem_swap.specs.World.{Snap}
+use Rattle.dem_swap.specs.Exchange.{Terms, Slot, Away, Empty, Full, DynamicsView, KinematicsView, IsSoundFor, IsAnswer, Follows}
+use Rattle.dem_swap.specs.ExchangeKinds.{HoldsHome, HoldsTaken, posting, taking, delivering, collecting, dynamics_looking, kinematics_looking, kinematics_checking, accompanied, beside, raising, beginning, newcomer}
 use Rattle.dem_swap.specs.Cycle.{snap_of, cargo_of, slot_of, others, table_of, exchange_of, KeepsCycle, dynamics_in, kinematics_in, Side, held_with, Posts, Takes, Delivers, Collects, Checks, Raises, Begins, left_of, right_of}
 use Rattle.dem_swap.proofs.KindFacts as kinds
 

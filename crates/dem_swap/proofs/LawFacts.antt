@@ -1,7 +1,7 @@
 -- The rule holds wherever atomic steps lead.
-use Rattle.std.proofs.Common.{◌≡◌, ℕ, Option, Some, None, refl, sym, ap, ◌∙◌, subst, arith}
-use Rattle.dem_swap.specs.Exchange.{Snap, Terms, Cargo, Slot, Away, Empty, Full, DynamicsView, KinematicsView, Exchange, IsSoundFor, IsAnswer, IsPostedLast, Follows}
-use Rattle.dem_swap.specs.ExchangeKinds.{posting, taking, delivering, collecting, dynamics_looking, dynamics_checking, kinematics_looking, kinematics_checking, accompanied, beside, raising, beginning, opening_exchange}
+use Rattle.std.proofs.Common.{◌≡◌, ℕ, Option, Some, None, sym, ap, ◌∙◌, subst, arith}
+use Rattle.dem_swap.specs.Exchange.{Cargo, Slot, Away, Full, DynamicsView, KinematicsView, Exchange, IsSoundFor, IsAnswer, IsPostedLast, Follows}
+use Rattle.dem_swap.specs.ExchangeKinds.{beginning}
 use Rattle.dem_swap.specs.ExchangeSteps.{Kind, Post, Take, Deliver, Collect, DynamicsSeesTurn, DynamicsSeesStop, KinematicsSeesTurn, KinematicsSeesStop, Split, Raise, Begin, Leads, Reached, opened, made}
 use Rattle.dem_swap.proofs.KindFacts as kinds
 

@@ -3,3 +3,4 @@ pub mod CycleFacts
 pub mod SeatFacts
 pub mod LawFacts
 pub mod SampleFacts
+pub mod EventFacts

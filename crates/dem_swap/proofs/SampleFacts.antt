@@ -1,15 +1,15 @@
 -- The scene of the tests is sound.
-use Rattle.std.proofs.Common.{◌≡◌, ℕ, zero, suc, ◌+◌, ◌≤◌, ◌<◌, ◌^◌, ℤ, pos, List, [], ◌∷◌, length, refl, sym, ap, ◌∙◌, subst, arith, rules, map, get_or}
+use Rattle.std.proofs.Common.{◌≡◌, ℕ, ◌≤◌, pos, List, [], ◌∷◌, length, refl, sym, subst, arith, rules, map, get_or}
 use Rattle.std.specs.Prelude.{All, IsTrue}
 use Rattle.std.proofs.lemmas.List.Elements.{All-nil, All-cons}
 use Rattle.std.proofs.lemmas.List.{get_or-map, length-map}
-use Rattle.dem_num.specs.Vectors.{narrowed, no_vector, widened, dot_of, Within}
+use Rattle.dem_num.specs.Vectors.{narrowed, no_vector, dot_of, Within}
 use Rattle.dem_num.specs.Numbers.{quotient, shifted}
 use Rattle.dem_num.specs.Rotations.{quat_norm2_of, matrix_of, turned_by, matrix_entry_of, axial, mixed_sum, mixed_difference}
 use Rattle.dem_model.specs.SceneValue.{SceneValue}
 use Rattle.dem_model.specs.Position.{in_box, in_voxels}
 use Rattle.dem_model.specs.Spheres.{balls_of, spheres_of, spheres_from, spheres_of_clump, center_of}
-use Rattle.dem_model.specs.Sound.{IsFrom, IsBetween, EachBetween, IsMaterial, IsBall, IsTemplate, IsBody, IsBodyOf, IsClump, IsWall, IsSound}
+use Rattle.dem_model.specs.Sound.{IsFrom, EachBetween, IsMaterial, IsBall, IsTemplate, IsBody, IsBodyOf, IsClump, IsWall, IsSound}
 use Rattle.dem_model.specs.Centers.{still_body, body_at}
 use Rattle.dem_model.specs.Motion.{AreSound}
 use Rattle.dem_model.specs.Plain.{first_state}

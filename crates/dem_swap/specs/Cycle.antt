@@ -1,12 +1,13 @@
 -- The table of an exchange as plain data, the rule that it keeps, and what each step tells the side that makes it.
-use Rattle.std.specs.Prelude.{ℕ, ◌≡◌, ◌≢◌, false, List, [], ◌∷◌, Option, Some, None}
+use Rattle.std.specs.Prelude.{ℕ, ◌≡◌, ◌≢◌, List, [], ◌∷◌, Option, Some, None}
 use mathlib.Core.Option.{Option as Home, none, some}
 use Rattle.atomic_table.specs.Table.{State, Me, Step}
 use Rattle.dem_shape.specs.declared.snapshot.Snapshot.{Snapshot}
 use Rattle.dem_swap.specs.declared.known.View.{View}
 use Rattle.dem_swap.specs.declared.known.View.TheVariants.{OfDynamics, OfKinematics}
 use Rattle.dem_swap.specs.declared.parcel.Parcel.{Parcel}
-use Rattle.dem_swap.specs.Exchange.{Snap, Terms, Cargo, Slot, Away, Empty, Full, DynamicsView, KinematicsView, Exchange, Follows, IsSoundFor, IsAnswer, IsPostedLast}
+use Rattle.dem_swap.specs.World.{Snap}
+use Rattle.dem_swap.specs.Exchange.{Terms, Cargo, Slot, Away, Empty, Full, DynamicsView, KinematicsView, Exchange, Follows, IsSoundFor, IsAnswer, IsPostedLast}
 use Rattle.dem_swap.specs.ExchangeKinds.{HoldsNone, posting, taking, delivering, collecting, dynamics_looking, kinematics_looking, kinematics_checking, accompanied, beside, raising, beginning, newcomer}
 
 -- a snapshot as plain data

@@ -4,13 +4,8 @@ use Rattle.dem_model.specs.SceneValue.{SceneValue}
 use Rattle.dem_model.specs.Centers.{centers_of}
 use Rattle.dem_model.specs.Motion.{AreSound}
 use Rattle.dem_model.specs.Near.{near_of}
-use Rattle.dem_model.specs.declared.state.Body.{Body}
 use Rattle.dem_model.specs.declared.state.Pair.{Pair}
-
--- the bodies of a step, as one side hands them to the other
-pub record Snap : Type 0 where
-  pub step : ℕ
-  pub bodies : List Body
+use Rattle.dem_swap.specs.World.{Snap}
 
 -- what an exchange is made for: a scene, and the drift limit of its lists
 pub record Terms : Type 0 where

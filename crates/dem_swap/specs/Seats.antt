@@ -1,5 +1,5 @@
 -- The seats of an exchange, as contracts see them.
-use Rattle.std.specs.Prelude.{ℕ, ◌+◌, ◌≡◌, false, [], ◌∷◌, None}
+use Rattle.std.specs.Prelude.{ℕ, ◌+◌, ◌≡◌, false, [], None}
 use Rattle.atomic_table.specs.Seated.{TableId}
 use Rattle.dem_swap.specs.declared.known.View.TheVariants.{OfDynamics, OfKinematics}
 use Rattle.dem_swap.specs.Exchange.{DynamicsView, KinematicsView}

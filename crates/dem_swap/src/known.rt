@@ -10,7 +10,7 @@ pub struct Snap {
 }
 
 impl Model for Snap {
-    ghost use Rattle.dem_swap.specs.Exchange.{Snap as SnapValue};
+    ghost use Rattle.dem_swap.specs.World.{Snap as SnapValue};
 
     ghost Value = { SnapValue };
 

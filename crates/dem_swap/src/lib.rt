@@ -19,9 +19,7 @@ mod swap;
 #[cfg(test)]
 mod tests;
 
-pub use known::{Dynamics, Kinematics, View};
 pub use laws::exchange_law;
 pub use parcel::Parcel;
-pub use plays::Cycle;
 pub use seats::{DynSeat, KinSeat};
 pub use swap::Swap;

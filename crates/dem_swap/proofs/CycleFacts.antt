@@ -10,9 +10,9 @@ use Rattle.atomic_table.specs.Table.{State, Act, keeps, takes, gives, stepped, c
 use Rattle.dem_swap.specs.declared.known.View.{View}
 use Rattle.dem_swap.specs.declared.known.View.TheVariants.{OfDynamics, OfKinematics}
 use Rattle.dem_swap.specs.declared.parcel.Parcel.{Parcel}
-use Rattle.dem_swap.specs.World.{Snap}
-use Rattle.dem_swap.specs.Exchange.{Terms, Slot, Away, Empty, Full, DynamicsView, KinematicsView, IsSoundFor, IsAnswer, Follows}
-use Rattle.dem_swap.specs.ExchangeKinds.{HoldsHome, HoldsTaken, posting, taking, delivering, collecting, dynamics_looking, kinematics_looking, kinematics_checking, accompanied, beside, raising, beginning, newcomer}
+use Rattle.dem_model.specs.World.{Snap}
+use Rattle.dem_model.specs.Exchange.{Terms, Slot, Away, Empty, Full, DynamicsView, KinematicsView, IsSoundFor, IsAnswer, Follows}
+use Rattle.dem_model.specs.ExchangeKinds.{HoldsHome, HoldsTaken, posting, taking, delivering, collecting, dynamics_looking, kinematics_looking, kinematics_checking, accompanied, beside, raising, beginning, newcomer}
 use Rattle.dem_swap.specs.Cycle.{snap_of, cargo_of, slot_of, others, table_of, exchange_of, KeepsCycle, dynamics_in, kinematics_in, Side, held_with, Posts, Takes, Delivers, Collects, Checks, Raises, Begins, left_of, right_of}
 use Rattle.dem_swap.proofs.KindFacts as kinds
 

@@ -1,10 +1,10 @@
 -- Each atomic step is the event that it stands for.
 use Rattle.std.proofs.Common.{◌≡◌, ℕ, zero, suc, ◌+◌, true, List, [], ◌∷◌, length, Option, Some, None, refl, sym, ap, ◌∙◌, subst, arith}
 use Rattle.std.specs.Prelude.{slice_get, false, unwrap_or}
-use Rattle.dem_swap.specs.World.{Snap, Taken, Delivered, is_home, is_posted, is_taken, is_delivered, carried_by}
-use Rattle.dem_swap.specs.Exchange.{Slot, DynamicsView, KinematicsView, Exchange, Turns, Follows}
-use Rattle.dem_swap.specs.ExchangeKinds.{HoldsHome}
-use Rattle.dem_swap.specs.ExchangeSteps.{Kind, Post, Take, Deliver, Collect, DynamicsSeesTurn, DynamicsSeesStop, KinematicsSeesTurn, KinematicsSeesStop, Split, Raise, Begin, Leads}
+use Rattle.dem_model.specs.World.{Snap, Taken, Delivered, is_home, is_posted, is_taken, is_delivered, carried_by}
+use Rattle.dem_model.specs.Exchange.{Slot, DynamicsView, KinematicsView, Exchange, Turns, Follows}
+use Rattle.dem_model.specs.ExchangeKinds.{HoldsHome}
+use Rattle.dem_model.specs.ExchangeSteps.{Kind, Post, Take, Deliver, Collect, DynamicsSeesTurn, DynamicsSeesStop, KinematicsSeesTurn, KinematicsSeesStop, Split, Raise, Begin, Leads}
 use Rattle.dem_swap.specs.ExchangeEvents.{first_snap, place_by, place_of, Moves}
 use Rattle.dem_swap.proofs.KindFacts as kinds
 

@@ -1,9 +1,9 @@
 -- Each kind of step keeps the rule of the exchange.
 use Rattle.std.proofs.Common.{◌≡◌, ℕ, zero, suc, ◌+◌, ◌<◌, Bool, true, false, length, Option, Some, None, refl, sym, ap, ◌∙◌, subst, arith}
 use Rattle.std.specs.Prelude.{IfSome}
-use Rattle.dem_swap.specs.World.{Snap}
-use Rattle.dem_swap.specs.Exchange.{Terms, Cargo, Slot, Away, Full, Looks, DynamicsView, KinematicsView, Exchange, IsSoundFor, IsAnswer, AreSoundFor, IsSoundSlot, Counts, HasCopy, Turns, slot_alone, HasSeen, Follows}
-use Rattle.dem_swap.specs.ExchangeKinds.{HoldsHome, HoldsTaken, posting, taking, delivering, collecting, dynamics_looking, dynamics_checking, kinematics_looking, kinematics_checking, accompanied, beside, raising, beginning, opening_exchange}
+use Rattle.dem_model.specs.World.{Snap}
+use Rattle.dem_model.specs.Exchange.{Terms, Cargo, Slot, Away, Full, Looks, DynamicsView, KinematicsView, Exchange, IsSoundFor, IsAnswer, AreSoundFor, IsSoundSlot, Counts, HasCopy, Turns, slot_alone, HasSeen, Follows}
+use Rattle.dem_model.specs.ExchangeKinds.{HoldsHome, HoldsTaken, posting, taking, delivering, collecting, dynamics_looking, dynamics_checking, kinematics_looking, kinematics_checking, accompanied, beside, raising, beginning, opening_exchange}
 
 -- an exchange by its parts
 abbrev pub at : ℕ → ℕ → Slot → DynamicsView → Option KinematicsView → Exchange

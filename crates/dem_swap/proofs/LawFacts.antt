@@ -1,8 +1,8 @@
 -- The rule holds wherever atomic steps lead.
 use Rattle.std.proofs.Common.{◌≡◌, ℕ, Option, Some, None, sym, ap, ◌∙◌, subst, arith}
-use Rattle.dem_swap.specs.Exchange.{Cargo, Slot, Away, Full, DynamicsView, KinematicsView, Exchange, IsSoundFor, IsAnswer, IsPostedLast, Follows}
-use Rattle.dem_swap.specs.ExchangeKinds.{beginning}
-use Rattle.dem_swap.specs.ExchangeSteps.{Kind, Post, Take, Deliver, Collect, DynamicsSeesTurn, DynamicsSeesStop, KinematicsSeesTurn, KinematicsSeesStop, Split, Raise, Begin, Leads, Reached, opened, made}
+use Rattle.dem_model.specs.Exchange.{Cargo, Slot, Away, Full, DynamicsView, KinematicsView, Exchange, IsSoundFor, IsAnswer, IsPostedLast, Follows}
+use Rattle.dem_model.specs.ExchangeKinds.{beginning}
+use Rattle.dem_model.specs.ExchangeSteps.{Kind, Post, Take, Deliver, Collect, DynamicsSeesTurn, DynamicsSeesStop, KinematicsSeesTurn, KinematicsSeesStop, Split, Raise, Begin, Leads, Reached, opened, made}
 use Rattle.dem_swap.proofs.KindFacts as kinds
 
 -- an exchange with some parts written anew follows the rule where the very exchange does

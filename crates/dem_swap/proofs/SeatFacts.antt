@@ -6,8 +6,8 @@ use Rattle.atomic_table.specs.Table.{Allows, Splits, step, rest}
 use Rattle.dem_swap.specs.declared.known.View.{View}
 use Rattle.dem_swap.specs.declared.known.View.TheVariants.{OfDynamics, OfKinematics}
 use Rattle.dem_swap.specs.declared.parcel.Parcel.{Parcel}
-use Rattle.dem_swap.specs.Exchange.{Terms, DynamicsView, KinematicsView, IsSoundFor, IsAnswer}
-use Rattle.dem_swap.specs.ExchangeKinds.{HoldsHome, HoldsTaken, beginning, newcomer}
+use Rattle.dem_model.specs.Exchange.{Terms, DynamicsView, KinematicsView, IsSoundFor, IsAnswer}
+use Rattle.dem_model.specs.ExchangeKinds.{HoldsHome, HoldsTaken, beginning, newcomer}
 use Rattle.dem_swap.specs.Cycle.{snap_of, cargo_of, KeepsCycle, dynamics_in, kinematics_in, Side, held_with, Posts, Takes, Delivers, Collects, Checks, Raises, Begins, left_of, right_of}
 use Rattle.dem_swap.specs.Seats.{IsDynSeat, IsKinSeat}
 use Rattle.dem_swap.proofs.CycleFacts.{post_allowed, take_allowed, deliver_allowed, collect_allowed, check_allowed, raise_allowed, begin_allowed, split_allowed}

@@ -6,9 +6,9 @@ use Rattle.dem_shape.specs.declared.snapshot.Snapshot.{Snapshot}
 use Rattle.dem_swap.specs.declared.known.View.{View}
 use Rattle.dem_swap.specs.declared.known.View.TheVariants.{OfDynamics, OfKinematics}
 use Rattle.dem_swap.specs.declared.parcel.Parcel.{Parcel}
-use Rattle.dem_swap.specs.World.{Snap}
-use Rattle.dem_swap.specs.Exchange.{Terms, Cargo, Slot, Away, Empty, Full, DynamicsView, KinematicsView, Exchange, Follows, IsSoundFor, IsAnswer, IsPostedLast}
-use Rattle.dem_swap.specs.ExchangeKinds.{HoldsNone, posting, taking, delivering, collecting, dynamics_looking, kinematics_looking, kinematics_checking, accompanied, beside, raising, beginning, newcomer}
+use Rattle.dem_model.specs.World.{Snap}
+use Rattle.dem_model.specs.Exchange.{Terms, Cargo, Slot, Away, Empty, Full, DynamicsView, KinematicsView, Exchange, Follows, IsSoundFor, IsAnswer, IsPostedLast}
+use Rattle.dem_model.specs.ExchangeKinds.{HoldsNone, posting, taking, delivering, collecting, dynamics_looking, kinematics_looking, kinematics_checking, accompanied, beside, raising, beginning, newcomer}
 
 -- a snapshot as plain data
 abbrev pub snap_of : Snapshot → Snap

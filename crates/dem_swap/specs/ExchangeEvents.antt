@@ -1,8 +1,8 @@
 -- Which event of the engine each atomic step of an exchange is.
 use Rattle.std.specs.Prelude.{ℕ, zero, suc, ◌≡◌, true, List, [], ◌∷◌}
-use Rattle.dem_swap.specs.World.{Snap, Parcel, Home, Posted, Taken, Delivered, is_home, is_posted, is_taken, is_delivered, carried_by}
-use Rattle.dem_swap.specs.Exchange.{Exchange}
-use Rattle.dem_swap.specs.ExchangeSteps.{Kind, Post, Take, Deliver, Collect, DynamicsSeesTurn, DynamicsSeesStop, KinematicsSeesTurn, KinematicsSeesStop, Split, Raise, Begin}
+use Rattle.dem_model.specs.World.{Snap, Parcel, Home, Posted, Taken, Delivered, is_home, is_posted, is_taken, is_delivered, carried_by}
+use Rattle.dem_model.specs.Exchange.{Exchange}
+use Rattle.dem_model.specs.ExchangeSteps.{Kind, Post, Take, Deliver, Collect, DynamicsSeesTurn, DynamicsSeesStop, KinematicsSeesTurn, KinematicsSeesStop, Split, Raise, Begin}
 
 -- the first of some snapshots; one of no bodies where there is none
 abbrev pub first_snap : List Snap → Snap

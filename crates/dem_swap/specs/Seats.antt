@@ -2,8 +2,8 @@
 use Rattle.std.specs.Prelude.{ℕ, ◌+◌, ◌≡◌, false, [], None}
 use Rattle.atomic_table.specs.Seated.{TableId}
 use Rattle.dem_swap.specs.declared.known.View.TheVariants.{OfDynamics, OfKinematics}
-use Rattle.dem_swap.specs.Exchange.{DynamicsView, KinematicsView}
-use Rattle.dem_swap.specs.ExchangeKinds.{HoldsHome, HasPosted, HoldsNone}
+use Rattle.dem_model.specs.Exchange.{DynamicsView, KinematicsView}
+use Rattle.dem_model.specs.ExchangeKinds.{HoldsHome, HasPosted, HoldsNone}
 use Rattle.dem_swap.specs.Cycle.{Side, dynamics_in, kinematics_in, held_with}
 
 -- the seat of dynamics: the exchange that it sits at, and what it knows

@@ -10,7 +10,7 @@ pub struct Snap {
 }
 
 impl Model for Snap {
-    ghost use Rattle.dem_swap.specs.World.{Snap as SnapValue};
+    ghost use Rattle.dem_model.specs.World.{Snap as SnapValue};
 
     ghost Value = { SnapValue };
 
@@ -24,7 +24,7 @@ pub struct Terms {
 }
 
 impl Model for Terms {
-    ghost use Rattle.dem_swap.specs.Exchange.{Terms as TermsValue};
+    ghost use Rattle.dem_model.specs.Exchange.{Terms as TermsValue};
 
     ghost Value = { TermsValue };
 
@@ -40,7 +40,7 @@ pub struct Looks {
 }
 
 impl Model for Looks {
-    ghost use Rattle.dem_swap.specs.Exchange.{Looks as LooksValue};
+    ghost use Rattle.dem_model.specs.Exchange.{Looks as LooksValue};
 
     ghost Value = { LooksValue };
 
@@ -58,7 +58,7 @@ pub struct Dynamics {
 }
 
 impl Model for Dynamics {
-    ghost use Rattle.dem_swap.specs.Exchange.{DynamicsView};
+    ghost use Rattle.dem_model.specs.Exchange.{DynamicsView};
 
     ghost Value = { DynamicsView };
 
@@ -75,7 +75,7 @@ pub struct Kinematics {
 }
 
 impl Model for Kinematics {
-    ghost use Rattle.dem_swap.specs.Exchange.{KinematicsView};
+    ghost use Rattle.dem_model.specs.Exchange.{KinematicsView};
 
     ghost Value = { KinematicsView };
 

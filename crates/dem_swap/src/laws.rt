@@ -1,9 +1,9 @@
 //! The rule of the exchange holds between any two atomic steps.
 
 ghost use Rattle.std.specs.Prelude.{◌≡◌, Some};
-ghost use Rattle.dem_swap.specs.Exchange.{Cargo, Exchange, KinematicsView, Follows, IsSoundFor, IsPostedLast, IsAnswer, Full};
+ghost use Rattle.dem_model.specs.Exchange.{Cargo, Exchange, KinematicsView, Follows, IsSoundFor, IsPostedLast, IsAnswer, Full};
 ghost use Rattle.dem_swap.specs.ExchangeEvents.{place_of, Moves};
-ghost use Rattle.dem_swap.specs.ExchangeSteps.{Kind, Leads, Reached};
+ghost use Rattle.dem_model.specs.ExchangeSteps.{Kind, Leads, Reached};
 
 /// Every exchange that atomic steps reach, in any order of the two sides, follows the rule.
 pub fn exchange_law()

@@ -4,8 +4,8 @@ ghost use Rattle.std.specs.Prelude.{◌≡◌, false, [], length, replicate, IfO
 ghost use Rattle.atomic_table.specs.Table.{Me};
 ghost use Rattle.dem_model.specs.Centers.{still_body};
 ghost use Rattle.dem_swap.specs.declared.known.View.TheVariants.{OfDynamics};
-ghost use Rattle.dem_swap.specs.Exchange.{terms_of};
-ghost use Rattle.dem_swap.specs.ExchangeKinds.{newcomer, first_dynamics, first_kinematics};
+ghost use Rattle.dem_model.specs.Exchange.{terms_of};
+ghost use Rattle.dem_model.specs.ExchangeKinds.{newcomer, first_dynamics, first_kinematics};
 
 use crate::known::View;
 use crate::parcel::Parcel;

@@ -23,7 +23,7 @@ pub struct Cycle;
 
 impl TableRule<Option<Parcel>, View, ()> for Cycle {
     ghost use Rattle.dem_swap.specs.declared.known.View.TheVariants.{OfDynamics};
-    ghost use Rattle.dem_swap.specs.ExchangeKinds.{newcomer};
+    ghost use Rattle.dem_model.specs.ExchangeKinds.{newcomer};
 
     ghost holds = { λ _. KeepsCycle };
 
@@ -68,7 +68,7 @@ impl Play<Option<Parcel>, View> for Raise {
 
 /// What an exchange is made for. The call that begins it picks this.
 pub(crate) trait Meant {
-    ghost use Rattle.dem_swap.specs.Exchange.{Terms};
+    ghost use Rattle.dem_model.specs.Exchange.{Terms};
 
     ghost terms: { Terms };
 }

@@ -2,8 +2,8 @@
 
 ghost use Rattle.std.specs.Prelude.{◌≡◌, ◌≢◌, ◌↔◌, ℕ, true, IfSome, IfNone};
 ghost use Rattle.dem_swap.specs.Cycle.{snap_of, cargo_of};
-ghost use Rattle.dem_swap.specs.Exchange.{IsSoundFor, IsPostedLast, IsAnswer};
-ghost use Rattle.dem_swap.specs.ExchangeKinds.{
+ghost use Rattle.dem_model.specs.Exchange.{IsSoundFor, IsPostedLast, IsAnswer};
+ghost use Rattle.dem_model.specs.ExchangeKinds.{
   HoldsHome,
   HasPosted,
   HoldsTaken,

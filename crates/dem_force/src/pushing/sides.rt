@@ -1,12 +1,11 @@
-//! The two sides of a pair, the law between them, and what the pair does where it touches.
+//! The side of a sphere, and the law between a pair.
 
 ghost use Rattle.std.specs.Prelude.{◌≡◌, ◌<◌, ◌≤◌, ◌^◌, length};
-ghost use Rattle.dem_num.specs.Vectors.{widened, Within};
 ghost use Rattle.dem_num.specs.Rotations.{matrix_of, EntriesWithin};
 ghost use Rattle.dem_model.specs.Advance.{mass_of};
 ghost use Rattle.dem_model.specs.Motion.{AreSound, IsPair};
-ghost use Rattle.dem_model.specs.Pairs.{sphere_count, limit_of, sphere_at};
-ghost use Rattle.dem_model.specs.Ranges.{IsFirst, IsSecond, IsLaw, IsTouch, IsSmall};
+ghost use Rattle.dem_model.specs.Pairs.{sphere_count, sphere_at};
+ghost use Rattle.dem_model.specs.Ranges.{IsFirst, IsLaw};
 ghost use Rattle.dem_model.specs.Sound.{IsBodyOf, IsMaterial, IsFrom};
 ghost use Rattle.dem_model.specs.Step.{
   clump_of_sphere,
@@ -15,17 +14,14 @@ ghost use Rattle.dem_model.specs.Step.{
   law_of,
   side_of,
   side_at,
-  second_side_of,
-  push_of,
 };
-ghost use Rattle.dem_model.specs.declared.limits.TheConstants.{MAX_MASS, MAX_DISPLACEMENT};
+ghost use Rattle.dem_model.specs.declared.limits.TheConstants.{MAX_MASS};
 ghost use Rattle.dem_shape.specs.Pose.{IsPose};
 
-use crate::pushing::law::contact;
-use crate::pushing::mixing::{mix, wall_side};
+use crate::pushing::mixing::mix;
 use crate::touching::pairs::wall_of;
-use dem_model::{Body, Law, Material, Pair, Push, Side, Touch};
-use dem_num::{Rows, Vec3};
+use dem_model::{Body, Law, Material, Pair, Side};
+use dem_num::Rows;
 use dem_shape::{Pose, Shapes};
 use dem_turn::{matrix, turned, turned_spin};
 
@@ -109,17 +105,6 @@ fn second_material(shapes: &Shapes, pair: Pair) -> Material
     }
 }
 
-/// The side of a sphere, where the bodies are these.
-#[tactic(auto, unfolding(dem_model::specs::Step::side_at))]
-pub fn sphere_side(shapes: &Shapes, bodies: &[Body], sphere: u32) -> Side
-    requires sphere { sphere < sphere_count shapes.now }
-    requires sound { AreSound shapes.now bodies.now }
-    ensures value { result ≡ side_at shapes.now bodies.now sphere }
-    ensures ranges { IsFirst result }
-{
-    side_of(shapes, &bodies[shapes.clump_of(sphere) as usize], sphere)
-}
-
 /// The side of a sphere, where the bodies are these and the pose is that of the sphere's clump.
 #[tactic(auto, unfolding(dem_model::specs::Step::side_at))]
 pub fn posed_side(shapes: &Shapes, bodies: &[Body], pose: &Pose, sphere: u32) -> Side
@@ -131,35 +116,4 @@ pub fn posed_side(shapes: &Shapes, bodies: &[Body], pose: &Pose, sphere: u32) ->
 {
     let body = &bodies[shapes.clump_of(sphere) as usize];
     side_with(shapes, body, &pose.rows, sphere)
-}
-
-/// The second side of a pair: that of a sphere or of a wall.
-#[tactic(auto, unfolding(dem_model::specs::Step::second_side_of))]
-fn second_side(shapes: &Shapes, bodies: &[Body], pair: Pair) -> Side
-    requires pair { IsPair shapes.now pair }
-    requires sound { AreSound shapes.now bodies.now }
-    ensures value { result ≡ second_side_of shapes.now bodies.now pair }
-    ensures ranges { IsSecond result }
-{
-    if pair.b < shapes.spheres() {
-        sphere_side(shapes, bodies, pair.b)
-    } else {
-        wall_side()
-    }
-}
-
-/// What a touching pair does, with the displacement that is stored for it.
-#[tactic(auto, unfolding(dem_model::specs::Step::push_of))]
-pub fn push_between(shapes: &Shapes, bodies: &[Body], pair: Pair, touch: Touch, h: Vec3) -> Push
-    requires pair { IsPair shapes.now pair }
-    requires sound { AreSound shapes.now bodies.now }
-    requires touch { IsTouch touch }
-    requires stored { Within (widened h) MAX_DISPLACEMENT }
-    ensures value { result ≡ push_of shapes.now bodies.now pair touch h }
-    ensures size { IsSmall result }
-{
-    let law = law_between(shapes, pair);
-    let first = sphere_side(shapes, bodies, pair.a);
-    let second = second_side(shapes, bodies, pair);
-    contact(&law, &first, &second, touch, h)
 }

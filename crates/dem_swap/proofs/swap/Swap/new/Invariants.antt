@@ -1,4 +1,4 @@
-use Rattle.dem_swap.specs.Exchange.{terms_of}
+use Rattle.dem_model.specs.Exchange.{terms_of}
 use Rattle.dem_swap.proofs.swap.Swap.new.Given as goal
 
 abbrev pub ghosts-begin : goal.ghosts-begin

@@ -1,5 +1,5 @@
 use Rattle.std.proofs.Common.{rules, ◌≡◌, subst, ap, false}
-use Rattle.dem_swap.specs.Exchange.{DynamicsView}
+use Rattle.dem_model.specs.Exchange.{DynamicsView}
 use Rattle.dem_swap.specs.Seats.{DynSeatValue}
 use Rattle.dem_swap.proofs.SeatFacts.{filled_home, post_from}
 use Rattle.dem_swap.proofs.swap.Swap.post.Goals as goal

@@ -1,7 +1,7 @@
 //! The rule of the exchange holds between any two atomic steps.
 
 ghost use Rattle.std.specs.Prelude.{◌≡◌, Some};
-ghost use Rattle.dem_model.specs.Exchange.{Cargo, Exchange, KinematicsView, Follows, IsSoundFor, IsPostedLast, IsAnswer, Full};
+ghost use Rattle.dem_model.specs.Exchange.{Cargo, Exchange, Follows, IsSoundFor, IsPostedLast, IsAnswer, Full};
 ghost use Rattle.dem_swap.specs.ExchangeEvents.{place_of, Moves};
 ghost use Rattle.dem_model.specs.ExchangeSteps.{Kind, Leads, Reached};
 

@@ -4,7 +4,7 @@ use Rattle.std.specs.Int.{int_div_euclid, int_min, int_max}
 use Rattle.std.specs.List.{fold, range_with_len, sum_by}
 use Rattle.dem_num.specs.declared.vector.Vec3.{Vec3}
 use Rattle.dem_model.specs.SceneValue.{SceneValue}
-use Rattle.dem_model.specs.Centres.{centre_at}
+use Rattle.dem_model.specs.Centers.{center_at}
 use Rattle.dem_model.specs.Near.{reach_of}
 use Rattle.dem_model.specs.Pairs.{sphere_count}
 use Rattle.dem_bins.specs.declared.grid.TheConstants.{MAX_CELLS}
@@ -44,17 +44,17 @@ cells_shared bin c r d q =
     let high = int_min (cell_at bin (c +ℤ pos r)) (cell_at bin (d +ℤ pos q)) in
     unsigned_abs (int_max (pos 0) (high +ℤ pos 1 -ℤ low))
 
--- how many bins the boxes of two spheres both meet: on each axis from the centre less the reach to the centre and the reach
+-- how many bins the boxes of two spheres both meet: on each axis from the center less the reach to the center and the reach
 unfoldable pub bins_shared : SceneValue → GridValue → List Vec3 → ℕ → ℕ → ℕ
-bins_shared s g centres a b =
+bins_shared s g centers a b =
     let ra = reach_of s g.drift a in
     let rb = reach_of s g.drift b in
-    cells_shared g.bin (centre_at centres a).x ra (centre_at centres b).x rb
-    * cells_shared g.bin (centre_at centres a).y ra (centre_at centres b).y rb
-    * cells_shared g.bin (centre_at centres a).z ra (centre_at centres b).z rb
+    cells_shared g.bin (center_at centers a).x ra (center_at centers b).x rb
+    * cells_shared g.bin (center_at centers a).y ra (center_at centers b).y rb
+    * cells_shared g.bin (center_at centers a).z ra (center_at centers b).z rb
 
 -- how many tests a list takes at most: for each pair of spheres one in each bin that both boxes meet, and one for each sphere and wall
 unfoldable pub most_tests : SceneValue → GridValue → List Vec3 → ℕ
-most_tests s g centres =
-    sum_by (λ b. sum_by (λ a. bins_shared s g centres a b) (range_with_len 0 b)) (range_with_len 0 (sphere_count s))
+most_tests s g centers =
+    sum_by (λ b. sum_by (λ a. bins_shared s g centers a b) (range_with_len 0 b)) (range_with_len 0 (sphere_count s))
     + sphere_count s * length s.walls

@@ -3,7 +3,7 @@ use Rattle.std.specs.Prelude.{ℕ, ◌+◌, ◌-◌, ◌*◌, ◌/◌, ◌<◌, 
 use Rattle.std.specs.List.{range_with_len}
 use Rattle.dem_num.specs.declared.vector.Vec3.{Vec3}
 use Rattle.dem_model.specs.SceneValue.{SceneValue}
-use Rattle.dem_model.specs.Centres.{centre_at}
+use Rattle.dem_model.specs.Centers.{center_at}
 use Rattle.dem_model.specs.Near.{reach_of}
 use Rattle.dem_model.specs.Pairs.{sphere_count}
 use Rattle.dem_bins.specs.Bins.{GridValue}
@@ -17,14 +17,14 @@ span_of bin reach c = record { low = (c + 4 * bin - reach) / bin; high = (c + 4 
 
 -- the cells that a sphere's box meets on each axis
 unfoldable pub block_of : SceneValue → GridValue → List Vec3 → ℕ → Block
-block_of s g centres i =
+block_of s g centers i =
     let reach = reach_of s g.drift i in
-    let c = centre_at centres i in
+    let c = center_at centers i in
     record { x = span_of g.bin reach (unsigned_abs c.x); y = span_of g.bin reach (unsigned_abs c.y); z = span_of g.bin reach (unsigned_abs c.z) }
 
 -- those of all spheres, in the order of their numbers
 unfoldable pub blocks_of : SceneValue → GridValue → List Vec3 → List Block
-blocks_of s g centres = map (block_of s g centres) (range_with_len 0 (sphere_count s))
+blocks_of s g centers = map (block_of s g centers) (range_with_len 0 (sphere_count s))
 
 -- the block that stands where a number names none
 abbrev pub no_block : Block

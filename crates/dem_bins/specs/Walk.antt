@@ -29,16 +29,16 @@ pair_in e d = pair_of (min (sphere_in e) (sphere_in d)) (max (sphere_in e) (sphe
 
 -- what a visit of two keys finds: their pair, in the first column that both spheres meet, if it is apart and near
 unfoldable pub visited : SceneValue → ℕ → List Vec3 → List Block → ℕ → ℕ → List Pair
-visited s drift centres bs e d =
-    if first_column (block_at bs (sphere_in e)) (block_at bs (sphere_in d)) == column_in e then found_here s drift centres (pair_in e d) else []
+visited s drift centers bs e d =
+    if first_column (block_at bs (sphere_in e)) (block_at bs (sphere_in d)) == column_in e then found_here s drift centers (pair_in e d) else []
 
 -- what a key finds with another
 unfoldable pub met : SceneValue → ℕ → List Vec3 → List Block → ℕ → ℕ → List Pair
-met s drift centres bs e d = if meets bs e d then visited s drift centres bs e d else []
+met s drift centers bs e d = if meets bs e d then visited s drift centers bs e d else []
 
 -- what a key finds with these keys
 unfoldable pub row_of : SceneValue → ℕ → List Vec3 → List Block → List ℕ → ℕ → List Pair
-row_of s drift centres bs es e = flat_map (met s drift centres bs e) es
+row_of s drift centers bs es e = flat_map (met s drift centers bs e) es
 
 -- how many visits a key has with these keys
 unfoldable pub row_visits : List Block → List ℕ → ℕ → ℕ
@@ -46,7 +46,7 @@ row_visits bs es e = sum_by (λ d. if meets bs e d then 1 else 0) es
 
 -- what all keys find with these keys
 unfoldable pub rows_of : SceneValue → ℕ → List Vec3 → List Block → List ℕ → List Pair
-rows_of s drift centres bs es = flat_map (row_of s drift centres bs es) es
+rows_of s drift centers bs es = flat_map (row_of s drift centers bs es) es
 
 -- how many visits all keys have
 unfoldable pub rows_visits : List Block → List ℕ → ℕ
@@ -61,8 +61,8 @@ pub record AreKeys (s : SceneValue) (bs : List Block) (es : List ℕ) : Type 0 w
 
 -- the near pairs of one wall with all spheres
 unfoldable pub wall_found : SceneValue → ℕ → List Vec3 → ℕ → List Pair
-wall_found s drift centres b = flat_map (λ a. found_here s drift centres (pair_of a b)) (range_with_len 0 (sphere_count s))
+wall_found s drift centers b = flat_map (λ a. found_here s drift centers (pair_of a b)) (range_with_len 0 (sphere_count s))
 
 -- the near pairs of all walls
 unfoldable pub walls_found : SceneValue → ℕ → List Vec3 → List Pair
-walls_found s drift centres = flat_map (wall_found s drift centres) (range_with_len (sphere_count s) (length s.walls))
+walls_found s drift centers = flat_map (wall_found s drift centers) (range_with_len (sphere_count s) (length s.walls))

@@ -1,4 +1,4 @@
-//! The cells that the box of each sphere meets: from its centre less its reach to its centre and its reach, on each axis.
+//! The cells that the box of each sphere meets: from its center less its reach to its center and its reach, on each axis.
 
 ghost use Rattle.std.specs.Prelude.{◌≡◌, pos, ◌*◌, ◌^◌, ◌<◌, ◌≤◌, IfOk, unsigned_abs};
 ghost use Rattle.dem_model.specs.Motion.{AreInside};
@@ -38,7 +38,7 @@ pub fn all_blocks(
     grid: &Grid,
 ) -> Result<Vec<Block>, OutOfMemory>
     requires grid { IsGridOf shapes.now grid.now }
-    requires centres { AreInside shapes.now centers.now }
+    requires centers { AreInside shapes.now centers.now }
     ensures { IfOk result (λ bs. bs.items ≡ blocks_of shapes.now grid.now centers.now) }
 {
     let mut blocks = Vec::new(alloc);
@@ -54,7 +54,7 @@ pub fn all_blocks(
 #[tactic(auto, unfolding(crate::specs::Blocks::block_of))]
 fn block_around(shapes: &Shapes, centers: &Centers, grid: &Grid, i: u32) -> Block
     requires grid { IsGridOf shapes.now grid.now }
-    requires centres { AreInside shapes.now centers.now }
+    requires centers { AreInside shapes.now centers.now }
     requires sphere { i < sphere_count shapes.now }
     ensures { result ≡ block_of shapes.now grid.now centers.now i }
 {

@@ -1,8 +1,8 @@
-//! The near pairs of a snapshot by bins: its centres, the blocks of cells, the sorted keys, the walk, and the walls.
+//! The near pairs of a snapshot by bins: its centers, the blocks of cells, the sorted keys, the walk, and the walls.
 
 ghost use Rattle.std.specs.Prelude.{◌≡◌, ◌+◌, ◌≤◌, [], OnOk};
 ghost use Rattle.dem_list.specs.Ascending.{HasSamePairs};
-ghost use Rattle.dem_model.specs.Centres.{centres_of};
+ghost use Rattle.dem_model.specs.Centers.{centers_of};
 ghost use Rattle.dem_model.specs.Motion.{AreSound, AreInside};
 ghost use Rattle.dem_model.specs.Near.{near_of};
 ghost use Rattle.dem_bins.specs.Bins.{IsGridOf, most_tests};
@@ -30,9 +30,9 @@ pub fn add_all<L: Ledger>(
     requires grid { IsGridOf shapes.now grid.now }
     requires sound { AreSound shapes.now snap.now.bodies }
     requires empty { raw.old.pairs ≡ [] }
-    ensures found { OnOk result (HasSamePairs raw.new.pairs (near_of shapes.now grid.now.drift (centres_of shapes.now snap.now.bodies))) }
+    ensures found { OnOk result (HasSamePairs raw.new.pairs (near_of shapes.now grid.now.drift (centers_of shapes.now snap.now.bodies))) }
     ensures from { raw.new.from ≡ raw.old.from }
-    ensures counted { tests.new ≤ tests.old + most_tests shapes.now grid.now (centres_of shapes.now snap.now.bodies) }
+    ensures counted { tests.new ≤ tests.old + most_tests shapes.now grid.now (centers_of shapes.now snap.now.bodies) }
 {
     let _scene = shapes.scene();
     let mut centers = Centers::new(alloc, shapes)?;
@@ -40,7 +40,7 @@ pub fn add_all<L: Ledger>(
     add_pairs(alloc, raw, shapes, &centers, grid, tests)
 }
 
-/// Adds all near pairs where the centres are these.
+/// Adds all near pairs where the centers are these.
 fn add_pairs<L: Ledger>(
     alloc: Global,
     raw: &mut RawPairs,
@@ -50,7 +50,7 @@ fn add_pairs<L: Ledger>(
     tests: &mut Steps<L>,
 ) -> Result<(), OutOfMemory>
     requires grid { IsGridOf shapes.now grid.now }
-    requires centres { AreInside shapes.now centers.now }
+    requires centers { AreInside shapes.now centers.now }
     requires empty { raw.old.pairs ≡ [] }
     ensures found { OnOk result (HasSamePairs raw.new.pairs (near_of shapes.now grid.now.drift centers.now)) }
     ensures from { raw.new.from ≡ raw.old.from }

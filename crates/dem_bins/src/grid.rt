@@ -2,7 +2,7 @@
 
 ghost use Rattle.std.specs.Prelude.{◌≡◌, ◌+◌, ◌^◌, ◌<◌, ◌≤◌, [], IfOk, IfErr, max, map};
 ghost use Rattle.std.specs.List.{fold, range_with_len};
-ghost use Rattle.dem_model.specs.Centres.{centres_of};
+ghost use Rattle.dem_model.specs.Centers.{centers_of};
 ghost use Rattle.dem_model.specs.Motion.{AreSound};
 ghost use Rattle.dem_model.specs.Near.{near_of, reach_of};
 ghost use Rattle.dem_bins.specs.Bins.{greatest_reach, grid_of, cells_across, IsGridOf, most_tests};
@@ -90,10 +90,10 @@ impl Grid {
     ) -> Result<PairList, (PairList, OutOfMemory)>
         requires grid { IsGridOf shapes.now self.now }
         requires sound { AreSound shapes.now snap.now.bodies }
-        ensures near { IfOk result (λ list. list.pairs ≡ near_of shapes.now self.now.drift (centres_of shapes.now snap.now.bodies)) }
+        ensures near { IfOk result (λ list. list.pairs ≡ near_of shapes.now self.now.drift (centers_of shapes.now snap.now.bodies)) }
         ensures from { IfOk result (λ list. list.from ≡ snap.now.step) }
         ensures refused { IfErr result (λ refused. refused.0 ≡ record { from = snap.now.step; pairs = [] }) }
-        ensures counted { tests.new ≤ tests.old + most_tests shapes.now self.now (centres_of shapes.now snap.now.bodies) }
+        ensures counted { tests.new ≤ tests.old + most_tests shapes.now self.now (centers_of shapes.now snap.now.bodies) }
     {
         let mut raw = buf.raw(snap.step);
         match add_all(alloc, &mut raw, shapes, snap, self, tests) {

@@ -35,7 +35,7 @@ pub fn walk<L: Ledger>(
     keys: &[u128],
     tests: &mut Steps<L>,
 ) -> Result<(), OutOfMemory>
-    requires centres { AreInside shapes.now centers.now }
+    requires centers { AreInside shapes.now centers.now }
     requires drift { drift ≤ 1024 }
     requires keys { AreKeys shapes.now blocks.now keys.now }
     requires room { length raw.old.pairs + length (rows_of shapes.now drift centers.now blocks.now keys.now) + 1 < 2 ^ 32 }
@@ -60,7 +60,7 @@ fn add_row<L: Ledger>(
     i: usize,
     tests: &mut Steps<L>,
 ) -> Result<(), OutOfMemory>
-    requires centres { AreInside shapes.now centers.now }
+    requires centers { AreInside shapes.now centers.now }
     requires drift { drift ≤ 1024 }
     requires keys { AreKeys shapes.now blocks.now keys.now }
     requires there { i < length keys.now }
@@ -105,7 +105,7 @@ fn visit<L: Ledger>(
     second: u128,
     tests: &mut Steps<L>,
 ) -> Result<(), OutOfMemory>
-    requires centres { AreInside shapes.now centers.now }
+    requires centers { AreInside shapes.now centers.now }
     requires drift { drift ≤ 1024 }
     requires count { length blocks.now ≡ sphere_count shapes.now }
     requires blocks { All IsBlock blocks.now }

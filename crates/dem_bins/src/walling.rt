@@ -19,7 +19,7 @@ pub fn add_walls<L: Ledger>(
     drift: u32,
     tests: &mut Steps<L>,
 ) -> Result<(), OutOfMemory>
-    requires centres { AreInside shapes.now centers.now }
+    requires centers { AreInside shapes.now centers.now }
     requires drift { drift ≤ 1024 }
     requires room { length raw.old.pairs + sphere_count shapes.now * length shapes.now.walls + 1 < 2 ^ 32 }
     ensures found { OnOk result (raw.new.pairs ≡ raw.old.pairs ++ walls_found shapes.now drift centers.now) }
@@ -43,7 +43,7 @@ fn add_wall<L: Ledger>(
     b: u32,
     tests: &mut Steps<L>,
 ) -> Result<(), OutOfMemory>
-    requires centres { AreInside shapes.now centers.now }
+    requires centers { AreInside shapes.now centers.now }
     requires drift { drift ≤ 1024 }
     requires later { sphere_count shapes.now ≤ b }
     requires there { b < limit_of shapes.now }

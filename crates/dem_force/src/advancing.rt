@@ -49,7 +49,10 @@ fn faster(v: i64, gravity: i64, force: i128, mass: u64, inverse: u64) -> i128
     ensures value { result ≡ v +ℤ gravity +ℤ quotient force (pos mass) }
     ensures size { AtMost result (2 ^ 85) }
 {
-    add(add(v as i128, gravity as i128), acceleration(force, mass, inverse))
+    add(
+        add(v as i128, gravity as i128),
+        acceleration(force, mass, inverse),
+    )
 }
 
 /// A component of force over mass; the reciprocal of the mass is about `inverse`.

@@ -17,7 +17,7 @@ ghost use Rattle.dem_model.specs.Law.{
 ghost use Rattle.dem_model.specs.Ranges.{IsBounded};
 
 use crate::short::{short, short3};
-use crate::small::{add3_short, mul_short, sh_short, sub3_short, sub_short};
+use crate::small::{add3_short, mul_short, sh_short, sub_short, sub3_short};
 use dem_model::Side;
 use dem_num::{Vec3, Wide3, dot, mul, root, sh, sub3, widen};
 

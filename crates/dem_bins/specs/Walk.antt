@@ -6,7 +6,7 @@ use Rattle.dem_num.specs.declared.vector.Vec3.{Vec3}
 use Rattle.dem_model.specs.SceneValue.{SceneValue}
 use Rattle.dem_model.specs.Pairs.{sphere_count, pair_of}
 use Rattle.dem_model.specs.declared.state.Pair.{Pair}
-use Rattle.dem_margin.specs.Found.{found_here}
+use Rattle.dem_margin.specs.NearList.{pair_if_near}
 use Rattle.dem_bins.specs.Blocks.{block_at, IsBlock}
 use Rattle.dem_bins.specs.Keys.{column_of, column_in, key_of, sphere_in, IsKey}
 use Rattle.dem_bins.specs.declared.blocks.Block.{Block}
@@ -30,7 +30,7 @@ pair_in e d = pair_of (min (sphere_in e) (sphere_in d)) (max (sphere_in e) (sphe
 -- what a visit of two keys finds: their pair, in the first column that both spheres meet, if it is apart and near
 unfoldable pub visited : SceneValue → ℕ → List Vec3 → List Block → ℕ → ℕ → List Pair
 visited s drift centers bs e d =
-    if first_column (block_at bs (sphere_in e)) (block_at bs (sphere_in d)) == column_in e then found_here s drift centers (pair_in e d) else []
+    if first_column (block_at bs (sphere_in e)) (block_at bs (sphere_in d)) == column_in e then pair_if_near s drift centers (pair_in e d) else []
 
 -- what a key finds with another
 unfoldable pub met : SceneValue → ℕ → List Vec3 → List Block → ℕ → ℕ → List Pair
@@ -61,7 +61,7 @@ pub record AreKeys (s : SceneValue) (bs : List Block) (es : List ℕ) : Type 0 w
 
 -- the near pairs of one wall with all spheres
 unfoldable pub wall_found : SceneValue → ℕ → List Vec3 → ℕ → List Pair
-wall_found s drift centers b = flat_map (λ a. found_here s drift centers (pair_of a b)) (range_with_len 0 (sphere_count s))
+wall_found s drift centers b = flat_map (λ a. pair_if_near s drift centers (pair_of a b)) (range_with_len 0 (sphere_count s))
 
 -- the near pairs of all walls
 unfoldable pub walls_found : SceneValue → ℕ → List Vec3 → List Pair

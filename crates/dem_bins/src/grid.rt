@@ -1,10 +1,9 @@
 //! A grid of bins for a scene: its check, and the list of near pairs that it finds.
 
-ghost use Rattle.std.specs.Prelude.{◌≡◌, ◌+◌, ◌^◌, ◌<◌, ◌≤◌, [], IfOk, IfErr, max, map};
-ghost use Rattle.std.specs.List.{fold, range_with_len};
+ghost use Rattle.std.specs.Prelude.{◌≡◌, ◌+◌, ◌^◌, ◌<◌, ◌≤◌, [], IfOk, IfErr};
 ghost use Rattle.dem_model.specs.Centers.{centers_of};
 ghost use Rattle.dem_model.specs.Motion.{AreSound};
-ghost use Rattle.dem_model.specs.Near.{near_of, reach_of};
+ghost use Rattle.dem_margin.specs.NearList.{IsNearListOf};
 ghost use Rattle.dem_bins.specs.Bins.{greatest_reach, grid_of, cells_across, IsGridOf, most_tests};
 
 use crate::building::add_all;
@@ -90,8 +89,7 @@ impl Grid {
     ) -> Result<PairList, (PairList, OutOfMemory)>
         requires grid { IsGridOf shapes.now self.now }
         requires sound { AreSound shapes.now snap.now.bodies }
-        ensures near { IfOk result (λ list. list.pairs ≡ near_of shapes.now self.now.drift (centers_of shapes.now snap.now.bodies)) }
-        ensures from { IfOk result (λ list. list.from ≡ snap.now.step) }
+        ensures near { IfOk result (IsNearListOf shapes.now self.now.drift snap.now) }
         ensures refused { IfErr result (λ refused. refused.0 ≡ record { from = snap.now.step; pairs = [] }) }
         ensures counted { tests.new ≤ tests.old + most_tests shapes.now self.now (centers_of shapes.now snap.now.bodies) }
     {

@@ -20,7 +20,7 @@ ghost use Rattle.dem_bins.specs.Blocks.{IsBlock};
 use crate::blocks::Block;
 use crate::keys::{column, column_of_key, key, sphere_of};
 use dem_list::RawPairs;
-use dem_margin::add_pair;
+use dem_margin::add_near;
 use dem_model::{OutOfMemory, Pair, Steps};
 use dem_shape::{Centers, Shapes};
 use std::sync::ledger::Ledger;
@@ -129,7 +129,7 @@ fn visit<L: Ledger>(
             a: a.min(b),
             b: a.max(b),
         };
-        add_pair(raw, shapes, centers, drift, pair)
+        add_near(raw, shapes, centers, drift, pair)
     } else {
         Ok(())
     }

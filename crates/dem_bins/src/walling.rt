@@ -6,7 +6,7 @@ ghost use Rattle.dem_model.specs.Pairs.{sphere_count, limit_of};
 ghost use Rattle.dem_bins.specs.Walk.{wall_found, walls_found};
 
 use dem_list::RawPairs;
-use dem_margin::add_pair;
+use dem_margin::add_near;
 use dem_model::{OutOfMemory, Pair, Steps};
 use dem_shape::{Centers, Shapes};
 use std::sync::ledger::Ledger;
@@ -54,7 +54,7 @@ fn add_wall<L: Ledger>(
 {
     for a in 0..shapes.spheres() {
         tests.tick();
-        add_pair(raw, shapes, centers, drift, Pair { a, b })?;
+        add_near(raw, shapes, centers, drift, Pair { a, b })?;
     }
     Ok(())
 }

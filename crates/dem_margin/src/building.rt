@@ -34,7 +34,7 @@ pub fn build_all(
 }
 
 /// A list of no pairs, from this step, in the buffer of what was found.
-fn emptied(raw: RawPairs, step: u32) -> PairList
+pub fn emptied(raw: RawPairs, step: u32) -> PairList
     ensures { result ≡ record { from = step; pairs = [] } }
 {
     raw.settle().raw(step).settle()

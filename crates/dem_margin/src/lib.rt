@@ -10,6 +10,6 @@ mod building;
 mod coverage;
 mod margin;
 
-pub use building::{add_near, build_all};
+pub use building::{add_near, build_all, emptied};
 pub use coverage::covers;
 pub use margin::{near, reach, tested};

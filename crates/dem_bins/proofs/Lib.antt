@@ -1,0 +1,4 @@
+pub mod SumFacts
+pub mod ListFacts
+pub mod KeyFacts
+pub mod CountFacts

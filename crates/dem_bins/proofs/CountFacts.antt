@@ -61,10 +61,10 @@ visits_of bs i j = sum_by (λ e. sum_by (λ d. mark (meets bs e d)) (own_keys (b
 unfoldable pub shared : Block → Block → ℕ
 shared a b = shared_on a.x b.x * shared_on a.y b.y * shared_on a.z b.z
 
-span-small : (a : Span) (x : ℕ) → IsSpan a → x < a.low + width a → x < CELLS
+pub span-small : (a : Span) (x : ℕ) → IsSpan a → x < a.low + width a → x < CELLS
 span-small a x h l = omega (arith, h.order, h.small)
 
-block-small : (a b : Block) (i j : ℕ) → IsBlock a → IsBlock b → i < SPHERES → j < SPHERES → AreSmall a.z.low i a.z.high b.z.low j
+pub block-small : (a b : Block) (i j : ℕ) → IsBlock a → IsBlock b → i < SPHERES → j < SPHERES → AreSmall a.z.low i a.z.high b.z.low j
 block-small a b i j ga gb il jl = record {
   low = omega (arith, ga.z.order, ga.z.small);
   sphere = il;
@@ -160,7 +160,7 @@ moved-pairs w xs ys h =
 unfoldable pub all_shared : List Block → ℕ
 all_shared bs = total (λ b. total (λ a. shared (block_at bs a) (block_at bs b)) 0 b) 0 (length bs)
 
-block_at-good : (bs : List Block) (i : ℕ) → All IsBlock bs → i < length bs → IsBlock (block_at bs i)
+pub block_at-good : (bs : List Block) (i : ℕ) → All IsBlock bs → i < length bs → IsBlock (block_at bs i)
 unfolding block_at
 block_at-good bs i all l = all i no_block l
 

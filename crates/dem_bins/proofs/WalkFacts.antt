@@ -1,0 +1,119 @@
+-- What a walk has found so far: nothing up to a key itself, nothing after its end, and each visit in between.
+use Rattle.std.proofs.Common.{◌≡◌, ℕ, zero, suc, ◌+◌, ◌*◌, ◌-◌, ◌^◌, ◌<◌, ◌≤◌, List, [], ◌∷◌, ◌++◌, length, take, drop, get_or, refl, sym, ap, ap₂, ◌∙◌, arith, subst, inl, inr, Bool, true, false}
+use Rattle.std.specs.Prelude.{if◌then◌else◌, ◌&&◌, ◌==◌, not, nat_lt, All}
+use Rattle.std.specs.List.{flat_map, sum_by}
+use Rattle.std.specs.List.Sorted.{IsNonDecreasing}
+use Rattle.std.proofs.lemmas.Bool.{le-ltb, lt-ltb, eq-eqb, and_left, and_right, and_from, not_from_false, ne_eqb, cases_order}
+use Rattle.std.proofs.lemmas.List.{append-nil, append_assoc, length-append, take_more, take_all, take-append-drop, get_or-take, get_or-drop, get_or_default, length-take, length-drop}
+use Rattle.std.proofs.lemmas.List.Concat.{flat_map-append}
+use Rattle.std.proofs.lemmas.List.Folds.{length-flat_map-take}
+use Rattle.std.proofs.lemmas.List.Elements.{All-tail, All-head}
+use Rattle.dem_num.specs.declared.vector.Vec3.{Vec3}
+use Rattle.dem_model.specs.SceneValue.{SceneValue}
+use Rattle.dem_model.specs.declared.state.Pair.{Pair}
+use Rattle.dem_bins.specs.Keys.{sphere_in}
+use Rattle.dem_bins.specs.Walk.{end_of, meets, visited, met, row_of}
+use Rattle.dem_bins.specs.declared.blocks.Block.{Block}
+
+-- ---- a list that is mapped and joined, element by element
+
+pub flat-more : {X Y : Type 0} (f : X → List Y) (xs : List X) (i : ℕ) (d : X) → i < length xs → flat_map f (take (i + 1) xs) ≡ flat_map f (take i xs) ++ f (get_or xs i d)
+flat-more f xs i d l =
+    ap (flat_map f) (take_more xs i d l)
+    ∙ flat_map-append f (take i xs) (get_or xs i d ∷ [])
+    ∙ ap (λ ys. flat_map f (take i xs) ++ ys) (append-nil (f (get_or xs i d)))
+
+pub flat-whole : {X Y : Type 0} (f : X → List Y) (xs : List X) (i : ℕ) → length xs ≤ i → flat_map f (take i xs) ≡ flat_map f xs
+flat-whole f xs i l = ap (flat_map f) (take_all i xs l)
+
+-- one step of a loop that adds such pieces to a list
+pub added-more : {X Y : Type 0} (f : X → List Y) (xs : List X) (i : ℕ) (d : X) (start so_far next : List Y) → i < length xs →
+    so_far ≡ start ++ flat_map f (take i xs) → next ≡ so_far ++ f (get_or xs i d) → next ≡ start ++ flat_map f (take (i + 1) xs)
+added-more f xs i d start so_far next l e n =
+    n ∙ ap (λ ys. ys ++ f (get_or xs i d)) e ∙ append_assoc start (flat_map f (take i xs)) (f (get_or xs i d)) ∙ ap (λ ys. start ++ ys) (sym (flat-more f xs i d l))
+
+-- room for the next piece, where there is room for all
+pub added-room : {X Y : Type 0} (f : X → List Y) (xs : List X) (i : ℕ) (d : X) (start so_far : List Y) (most : ℕ) → i < length xs →
+    so_far ≡ start ++ flat_map f (take i xs) → length start + length (flat_map f xs) + 1 < most → length so_far + length (f (get_or xs i d)) + 1 < most
+added-room f xs i d start so_far most l e room =
+    omega (arith, ap length e, length-append start (flat_map f (take i xs)), length-flat_map-take f xs i d l)
+
+pub added-place : {X Y : Type 0} (f : X → List Y) (xs : List X) (i : ℕ) (d : X) (start so_far : List Y) (most : ℕ) → i < length xs →
+    so_far ≡ start ++ flat_map f (take i xs) → length start + length (flat_map f xs) + 1 < most → length so_far + 1 < most
+added-place f xs i d start so_far most l e room = omega (arith, added-room f xs i d start so_far most l e room)
+
+-- ---- keys that don't meet
+
+meets-early : (bs : List Block) (e d : ℕ) → d ≤ e → meets bs e d ≡ false
+unfolding meets
+meets-early bs e d h =
+    and_left (nat_lt e d && nat_lt d (end_of bs e)) (not (sphere_in e == sphere_in d)) (and_left (nat_lt e d) (nat_lt d (end_of bs e)) (le-ltb e d h))
+
+meets-late : (bs : List Block) (e d : ℕ) → end_of bs e ≤ d → meets bs e d ≡ false
+unfolding meets
+meets-late bs e d h =
+    and_left (nat_lt e d && nat_lt d (end_of bs e)) (not (sphere_in e == sphere_in d)) (and_right (nat_lt e d) (nat_lt d (end_of bs e)) (le-ltb d (end_of bs e) h))
+
+-- two keys of one sphere don't meet
+pub meets-own : (bs : List Block) (e d : ℕ) → sphere_in e ≡ sphere_in d → meets bs e d ≡ false
+unfolding meets
+meets-own bs e d h =
+    and_right (nat_lt e d && nat_lt d (end_of bs e)) (not (sphere_in e == sphere_in d)) (ap not (eq-eqb (sphere_in e) (sphere_in d) h))
+
+-- two keys of two spheres do, in order and before the end
+pub meets-now : (bs : List Block) (e d : ℕ) → e ≤ d → d < end_of bs e → (sphere_in e ≡ sphere_in d → ⊥) → meets bs e d ≡ true
+unfolding meets
+meets-now bs e d order below other =
+    let less : e < d = elim (cases_order e d) [
+      | inl same ↦ absurd (other (ap sphere_in same))
+      | inr rest ↦ elim rest [ | inl lt ↦ lt | inr gt ↦ absurd (omega arith) ]
+    ] in
+    and_from (nat_lt e d && nat_lt d (end_of bs e)) (not (sphere_in e == sphere_in d))
+    (and_from (nat_lt e d) (nat_lt d (end_of bs e)) (lt-ltb e d less) (lt-ltb d (end_of bs e) below))
+    (not_from_false (sphere_in e == sphere_in d) (ne_eqb (sphere_in e) (sphere_in d) other))
+
+pub met-none : (s : SceneValue) (drift : ℕ) (cs : List Vec3) (bs : List Block) (e d : ℕ) → meets bs e d ≡ false → met s drift cs bs e d ≡ []
+unfolding met
+met-none s drift cs bs e d h = rw h refl
+
+pub met-visited : (s : SceneValue) (drift : ℕ) (cs : List Vec3) (bs : List Block) (e d : ℕ) → meets bs e d ≡ true → met s drift cs bs e d ≡ visited s drift cs bs e d
+unfolding met
+met-visited s drift cs bs e d h = rw h refl
+
+-- a key finds nothing with keys that it doesn't meet
+none-met : (s : SceneValue) (drift : ℕ) (cs : List Vec3) (bs : List Block) (e : ℕ) (ds : List ℕ) → All (λ d. meets bs e d ≡ false) ds → flat_map (met s drift cs bs e) ds ≡ []
+none-met s drift cs bs e [] h = refl
+none-met s drift cs bs e (d ∷ ds) h =
+    rw (met-none s drift cs bs e d (All-head (λ x. meets bs e x ≡ false) d ds h)) (none-met s drift cs bs e ds (All-tail (λ x. meets bs e x ≡ false) d ds h))
+
+-- nor with those up to itself
+pub row-begins : (s : SceneValue) (drift : ℕ) (cs : List Vec3) (bs : List Block) (es : List ℕ) (i : ℕ) → IsNonDecreasing es → i < length es →
+    flat_map (met s drift cs bs (get_or es i 0)) (take (i + 1) es) ≡ []
+row-begins s drift cs bs es i order l =
+    none-met s drift cs bs (get_or es i 0) (take (i + 1) es)
+    (λ k d lt.
+      let place : k < i + 1 = omega (arith, length-take (i + 1) es) in
+      rw (get_or-take (i + 1) es k d place)
+      (meets-early bs (get_or es i 0) (get_or es k d) (subst (λ (n : ℕ). get_or es k d ≤ n) (get_or_default es i d 0 l) (order k i d (omega arith) l))))
+
+-- nor with those from its end on
+pub row-ends : (s : SceneValue) (drift : ℕ) (cs : List Vec3) (bs : List Block) (es : List ℕ) (e j : ℕ) → IsNonDecreasing es → j < length es → end_of bs e ≤ get_or es j 0 →
+    flat_map (met s drift cs bs e) (take j es) ≡ row_of s drift cs bs es e
+unfolding row_of
+row-ends s drift cs bs es e j order l end =
+    let rest : flat_map (met s drift cs bs e) (drop j es) ≡ [] =
+    none-met s drift cs bs e (drop j es)
+    (λ k d lt.
+      let place : j + k < length es = omega (arith, length-drop j es) in
+      rw (get_or-drop j es k d)
+      (meets-late bs e (get_or es (j + k) d)
+      (let up : get_or es j d ≤ get_or es (j + k) d = order j (j + k) d (omega arith) place in omega (arith, end, up, get_or_default es j d 0 l)))) in
+    sym (append-nil (flat_map (met s drift cs bs e) (take j es)))
+    ∙ ap (λ ys. flat_map (met s drift cs bs e) (take j es) ++ ys) (sym rest)
+    ∙ sym (flat_map-append (met s drift cs bs e) (take j es) (drop j es))
+    ∙ ap (flat_map (met s drift cs bs e)) (take-append-drop j es)
+
+pub row-whole : (s : SceneValue) (drift : ℕ) (cs : List Vec3) (bs : List Block) (es : List ℕ) (e j : ℕ) → length es ≤ j →
+    flat_map (met s drift cs bs e) (take j es) ≡ row_of s drift cs bs es e
+unfolding row_of
+row-whole s drift cs bs es e j l = flat-whole (met s drift cs bs e) es j l

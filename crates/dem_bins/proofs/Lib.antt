@@ -6,3 +6,5 @@ pub mod RoomFacts
 pub mod BlockFacts
 pub mod CellFacts
 pub mod WalkFacts
+pub mod NearFacts
+pub mod BoundFacts

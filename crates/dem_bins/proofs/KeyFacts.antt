@@ -3,7 +3,7 @@ use Rattle.std.proofs.Common.{◌≡◌, ℕ, ◌+◌, ◌*◌, ◌/◌, ◌%◌
 use Rattle.std.specs.Prelude.{if◌then◌else◌, ◌==◌, ◌&&◌, not, nat_lt, min, max}
 use Rattle.std.proofs.lemmas.Bool.{cases_Bool, and_parts, and_from, ltb-true, lt-ltb, not-true, not_from_false, eqb-false, eqb-true, eq-eqb, ne_eqb}
 use Rattle.std.proofs.lemmas.Bool.Decides.{nat_tests}
-use Rattle.std.proofs.lemmas.Nat.{mod-mul-add, div-mul-add, same_from_place}
+use Rattle.std.proofs.lemmas.Nat.{mod-mul-add, div-mul-add, div_below, same_from_place}
 use Rattle.dem_bins.specs.Blocks.{block_at, IsSpan}
 use Rattle.dem_bins.specs.Keys.{column_of, key_of, sphere_in, column_in}
 use Rattle.dem_bins.specs.Walk.{end_of, meets}
@@ -124,3 +124,8 @@ before-itself a i = grind (arith, nat_tests)
 pub before-met : (a b : Span) (c i d j : ℕ) → AreMet c a.low i a.high d b.low j → before a b i j ≡ true
 unfolding before
 before-met a b c i d j h = let order : a.low * SPHERES + i < b.low * SPHERES + j = h.order in let below : b.low ≤ a.high = h.below in grind (arith, nat_tests)
+
+-- the column of a small key is small
+pub column_in-small : (k : ℕ) → k < CELLS * CELLS * CELLS * SPHERES → column_in k < CELLS * CELLS
+unfolding column_in
+column_in-small k h = div_below (k / SPHERES) CELLS (CELLS * CELLS) (omega arith) (div_below k SPHERES (CELLS * CELLS * CELLS) (omega arith) h)

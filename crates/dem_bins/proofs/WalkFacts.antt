@@ -1,7 +1,7 @@
 -- What a walk has found so far: nothing up to a key itself, nothing after its end, and each visit in between.
-use Rattle.std.proofs.Common.{◌≡◌, ℕ, zero, suc, ◌+◌, ◌*◌, ◌-◌, ◌^◌, ◌<◌, ◌≤◌, List, [], ◌∷◌, ◌++◌, length, take, drop, get_or, refl, sym, ap, ap₂, ◌∙◌, arith, subst, inl, inr, Bool, true, false}
+use Rattle.std.proofs.Common.{◌≡◌, ℕ, zero, suc, ◌+◌, ◌*◌, ◌-◌, ◌^◌, ◌<◌, ◌≤◌, List, [], ◌∷◌, ◌++◌, length, map, take, drop, get_or, refl, sym, ap, ap₂, ◌∙◌, arith, subst, inl, inr, Bool, true, false}
 use Rattle.std.specs.Prelude.{if◌then◌else◌, ◌&&◌, ◌==◌, not, nat_lt, All}
-use Rattle.std.specs.List.{flat_map, sum_by}
+use Rattle.std.specs.List.{flat_map, range_with_len, sum_by}
 use Rattle.std.specs.List.Sorted.{IsNonDecreasing}
 use Rattle.std.proofs.lemmas.Bool.{le-ltb, lt-ltb, eq-eqb, and_left, and_right, and_from, not_from_false, ne_eqb, cases_order}
 use Rattle.std.proofs.lemmas.List.{append-nil, append_assoc, length-append, take_more, take_all, take-append-drop, get_or-take, get_or-drop, get_or_default, length-take, length-drop}
@@ -11,6 +11,8 @@ use Rattle.std.proofs.lemmas.List.Elements.{All-tail, All-head}
 use Rattle.dem_num.specs.declared.vector.Vec3.{Vec3}
 use Rattle.dem_model.specs.SceneValue.{SceneValue}
 use Rattle.dem_model.specs.declared.state.Pair.{Pair}
+use Rattle.std.proofs.lemmas.List.FromFn.{map-range_with_len_more}
+use Rattle.dem_bins.proofs.SumFacts.{range-more}
 use Rattle.dem_bins.specs.Keys.{sphere_in}
 use Rattle.dem_bins.specs.Walk.{end_of, meets, visited, met, row_of}
 use Rattle.dem_bins.specs.declared.blocks.Block.{Block}
@@ -117,3 +119,31 @@ pub row-whole : (s : SceneValue) (drift : ℕ) (cs : List Vec3) (bs : List Block
     flat_map (met s drift cs bs e) (take j es) ≡ row_of s drift cs bs es e
 unfolding row_of
 row-whole s drift cs bs es e j l = flat-whole (met s drift cs bs e) es j l
+
+-- ---- loops over ranges of numbers
+
+pub flat-step : {Y : Type 0} (f : ℕ → List Y) (k j : ℕ) (start so_far next : List Y) → k ≤ j →
+    so_far ≡ start ++ flat_map f (range_with_len k (j - k)) → next ≡ so_far ++ f j → next ≡ start ++ flat_map f (range_with_len k (j + 1 - k))
+flat-step f k j start so_far next low e n =
+    let last : k + (j - k) ≡ j = omega arith in
+    let count : (j - k) + 1 ≡ j + 1 - k = omega arith in
+    let more : flat_map f (range_with_len k (j - k)) ++ f j ≡ flat_map f (range_with_len k (j + 1 - k)) =
+    ap (λ ys. flat_map f (range_with_len k (j - k)) ++ ys) (ap f (sym last) ∙ sym (append-nil (f (k + (j - k)))))
+    ∙ sym (flat_map-append f (range_with_len k (j - k)) ((k + (j - k)) ∷ []))
+    ∙ ap (flat_map f) (sym (range-more k (j - k)))
+    ∙ ap (λ m. flat_map f (range_with_len k m)) count in
+    n ∙ ap (λ ys. ys ++ f j) e ∙ append_assoc start (flat_map f (range_with_len k (j - k))) (f j) ∙ ap (λ ys. start ++ ys) more
+
+pub map-step : {Y : Type 0} (f : ℕ → Y) (k j : ℕ) (start so_far next : List Y) → k ≤ j →
+    so_far ≡ start ++ map f (range_with_len k (j - k)) → next ≡ so_far ++ f j ∷ [] → next ≡ start ++ map f (range_with_len k (j + 1 - k))
+map-step f k j start so_far next low e n =
+    let count : (j - k) + 1 ≡ j + 1 - k = omega arith in
+    n ∙ ap (λ ys. ys ++ f j ∷ []) e ∙ append_assoc start (map f (range_with_len k (j - k))) (f j ∷ [])
+    ∙ ap (λ ys. start ++ ys) (sym (map-range_with_len_more f k (j - k) j (omega arith)) ∙ ap (λ m. map f (range_with_len k m)) count)
+
+-- what loops have added at their start and at their end
+pub range-none : {Y : Type 0} (F : List ℕ → List Y) (k : ℕ) (start : List Y) → F [] ≡ [] → start ≡ start ++ F (range_with_len k (k - k))
+range-none F k start none = let zero' : k - k ≡ 0 = omega arith in rw (zero', none) (sym (append-nil start))
+
+pub range-end : {Y : Type 0} (F : List ℕ → List Y) (k j n : ℕ) (start so_far : List Y) → j - k ≡ n → so_far ≡ start ++ F (range_with_len k (j - k)) → so_far ≡ start ++ F (range_with_len k n)
+range-end F k j n start so_far e h = h ∙ ap (λ m. start ++ F (range_with_len k m)) e

@@ -5,7 +5,7 @@ use Rattle.dem_bins.specs.Walk.{wall_found}
 use Rattle.dem_bins.proofs.walling.add_walls.Given as goal
 
 abbrev pub invariant-loop-b : goal.invariant-loop-b
-invariant-loop-b l =
+invariant-loop-b g l =
     (l.raw.pairs ≡ l.fn.raw.pairs ++ flat_map (wall_found l.shapes l.drift l.centers) (range_with_len (sphere_count l.shapes) (l.b - sphere_count l.shapes)))
     × (l.raw.from ≡ l.fn.raw.from)
     × (l.tests ≤ l.fn.tests + sphere_count l.shapes * (l.b - sphere_count l.shapes))

@@ -1,5 +1,5 @@
 -- What a walk has found so far: nothing up to a key itself, nothing after its end, and each visit in between.
-use Rattle.std.proofs.Common.{◌≡◌, ℕ, zero, suc, ◌+◌, ◌*◌, ◌-◌, ◌^◌, ◌<◌, ◌≤◌, List, [], ◌∷◌, ◌++◌, length, map, take, drop, get_or, refl, sym, ap, ap₂, ◌∙◌, arith, subst, inl, inr, Bool, true, false}
+use Rattle.std.proofs.Common.{◌≡◌, ℕ, zero, suc, ◌+◌, ◌*◌, ◌-◌, ◌^◌, ◌<◌, ◌≤◌, List, [], ◌∷◌, ◌++◌, length, map, take, drop, get_or, refl, sym, ap, ap₂, ◌∙◌, arith, subst, zero-add, inl, inr, Bool, true, false}
 use Rattle.std.specs.Prelude.{if◌then◌else◌, ◌&&◌, ◌==◌, not, nat_lt, All}
 use Rattle.std.specs.List.{flat_map, range_with_len, sum_by}
 use Rattle.std.specs.List.Sorted.{IsNonDecreasing}
@@ -13,8 +13,10 @@ use Rattle.dem_model.specs.SceneValue.{SceneValue}
 use Rattle.dem_model.specs.declared.state.Pair.{Pair}
 use Rattle.std.proofs.lemmas.List.FromFn.{map-range_with_len_more}
 use Rattle.dem_bins.proofs.SumFacts.{range-more}
-use Rattle.dem_bins.specs.Keys.{sphere_in}
-use Rattle.dem_bins.specs.Walk.{end_of, meets, visited, met, row_of}
+use Rattle.dem_margin.specs.NearList.{pair_if_near}
+use Rattle.dem_bins.specs.Blocks.{block_at, no_block}
+use Rattle.dem_bins.specs.Keys.{sphere_in, column_in}
+use Rattle.dem_bins.specs.Walk.{end_of, first_column, pair_in, meets, visited, met, row_of}
 use Rattle.dem_bins.specs.declared.blocks.Block.{Block}
 
 -- ---- a list that is mapped and joined, element by element
@@ -147,3 +149,35 @@ range-none F k start none = let zero' : k - k ≡ 0 = omega arith in rw (zero', 
 
 pub range-end : {Y : Type 0} (F : List ℕ → List Y) (k j n : ℕ) (start so_far : List Y) → j - k ≡ n → so_far ≡ start ++ F (range_with_len k (j - k)) → so_far ≡ start ++ F (range_with_len k n)
 range-end F k j n start so_far e h = h ∙ ap (λ m. start ++ F (range_with_len k m)) e
+
+-- ---- a block that is read, and a visit
+
+pub block_at-read : (bs : List Block) (i j : ℕ) (d : Block) → i ≡ j → j < length bs → get_or bs i d ≡ block_at bs j
+unfolding block_at
+block_at-read bs i j d e l = ap (λ n. get_or bs n d) e ∙ get_or_default bs j d no_block l
+
+-- in the first column that both spheres meet their pair is added, if it is apart and near
+pub visit-first : (s : SceneValue) (drift : ℕ) (cs : List Vec3) (bs : List Block) (e d : ℕ) (p : Pair) → meets bs e d ≡ true → p ≡ pair_in e d →
+    first_column (block_at bs (sphere_in e)) (block_at bs (sphere_in d)) ≡ column_in e → pair_if_near s drift cs p ≡ met s drift cs bs e d
+unfolding visited
+visit-first s drift cs bs e d p meet same first =
+    sym (met-visited s drift cs bs e d meet ∙ rw (eq-eqb (first_column (block_at bs (sphere_in e)) (block_at bs (sphere_in d))) (column_in e) first) (ap (pair_if_near s drift cs) (sym same)))
+
+-- and nothing elsewhere
+pub visit-later : (s : SceneValue) (drift : ℕ) (cs : List Vec3) (bs : List Block) (e d : ℕ) → meets bs e d ≡ true →
+    (first_column (block_at bs (sphere_in e)) (block_at bs (sphere_in d)) ≡ column_in e → ⊥) → met s drift cs bs e d ≡ []
+unfolding visited
+visit-later s drift cs bs e d meet other =
+    met-visited s drift cs bs e d meet ∙ rw (ne_eqb (first_column (block_at bs (sphere_in e)) (block_at bs (sphere_in d))) (column_in e) other) refl
+
+-- the same from nothing
+pub flat-next : {Y : Type 0} (f : ℕ → List Y) (j : ℕ) (so_far next : List Y) → so_far ≡ flat_map f (range_with_len 0 j) → next ≡ so_far ++ f j → next ≡ flat_map f (range_with_len 0 (j + 1))
+flat-next f j so_far next e n =
+    let more : flat_map f (range_with_len 0 j) ++ f j ≡ flat_map f (range_with_len 0 (j + 1)) =
+    ap (λ ys. flat_map f (range_with_len 0 j) ++ ys) (ap f (sym (zero-add j)) ∙ sym (append-nil (f (0 + j))))
+    ∙ sym (flat_map-append f (range_with_len 0 j) ((0 + j) ∷ []))
+    ∙ ap (flat_map f) (sym (range-more 0 j)) in
+    n ∙ ap (λ ys. ys ++ f j) e ∙ more
+
+pub map-next : {Y : Type 0} (f : ℕ → Y) (j : ℕ) (so_far next : List Y) → so_far ≡ map f (range_with_len 0 j) → next ≡ so_far ++ f j ∷ [] → next ≡ map f (range_with_len 0 (j + 1))
+map-next f j so_far next e n = n ∙ ap (λ ys. ys ++ f j ∷ []) e ∙ sym (map-range_with_len_more f 0 j j (zero-add j))

@@ -18,7 +18,7 @@ use Rattle.dem_bins.specs.Walk.{meets, first_column, pair_in, visited, met, row_
 use Rattle.dem_bins.specs.declared.blocks.Block.{Block}
 use Rattle.dem_bins.specs.declared.blocks.Span.{Span}
 use Rattle.dem_bins.specs.declared.keys.TheConstants.{CELLS, SPHERES}
-use Rattle.dem_bins.proofs.SumFacts.{mark, total, total-same, total-le, total-product, total-at, sum-same}
+use Rattle.dem_bins.proofs.SumFacts.{mark, total, total-same, total-le, total-product, total-at, total-const, sum-same}
 use Rattle.dem_bins.proofs.KeyFacts.{AreMet, AreSmall, meets-parts, column_of-same, sphere_in-key, column_in-key}
 use Rattle.dem_bins.proofs.CountFacts.{width, span-small, block-small, two_keys-le, keys_of-pairs, moved-pairs, block_at-good}
 
@@ -117,11 +117,6 @@ found_of-le s drift cs bs i j gi gj il jl =
     (once (first_x (block_at bs i) (block_at bs j)) (block_at bs i).x.low (width (block_at bs i).x) (block_at bs j).x.low (width (block_at bs j).x))
     (once (first_y (block_at bs i) (block_at bs j)) (block_at bs i).y.low (width (block_at bs i).y) (block_at bs j).y.low (width (block_at bs j).y)) in
     omega (arith, le, both)
-
-total-const : (c k n : ℕ) → total (λ i. c) k n ≡ n * c
-unfolding total
-total-const c k zero = omega arith
-total-const c k (suc n) = omega (arith, total-const c k n)
 
 -- a walk finds no more pairs than there are pairs of blocks
 pub rows_of-le : (s : SceneValue) (drift : ℕ) (cs : List Vec3) (bs : List Block) (es : List ℕ) → All IsBlock bs → length bs ≤ SPHERES → IsPermutation (keys_of bs) es →

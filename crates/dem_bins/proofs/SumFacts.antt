@@ -45,6 +45,11 @@ unfolding total
 total-zero k zero = refl
 total-zero k (suc n) = omega (arith, total-zero k n)
 
+pub total-const : (c k n : ℕ) → total (λ i. c) k n ≡ n * c
+unfolding total
+total-const c k zero = omega arith
+total-const c k (suc n) = omega (arith, total-const c k n)
+
 -- a factor that stays
 pub total-scale : (c : ℕ) (f : ℕ → ℕ) (k n : ℕ) → total (λ i. f i * c) k n ≡ total f k n * c
 unfolding total

@@ -12,7 +12,8 @@ use Rattle.dem_num.specs.declared.vector.Vec3.{Vec3}
 use Rattle.dem_model.specs.SceneValue.{SceneValue}
 use Rattle.dem_model.specs.declared.state.Pair.{Pair}
 use Rattle.std.proofs.lemmas.List.FromFn.{map-range_with_len_more}
-use Rattle.dem_bins.proofs.SumFacts.{range-more}
+use Rattle.std.proofs.lemmas.List.Concat.{length-flat_map}
+use Rattle.dem_bins.proofs.SumFacts.{range-more, total, total-le, total-const, sum-range}
 use Rattle.dem_margin.specs.NearList.{pair_if_near}
 use Rattle.dem_bins.specs.Blocks.{block_at, no_block}
 use Rattle.dem_bins.specs.Keys.{sphere_in, column_in}
@@ -181,3 +182,23 @@ flat-next f j so_far next e n =
 
 pub map-next : {Y : Type 0} (f : ℕ → Y) (j : ℕ) (so_far next : List Y) → so_far ≡ map f (range_with_len 0 j) → next ≡ so_far ++ f j ∷ [] → next ≡ map f (range_with_len 0 (j + 1))
 map-next f j so_far next e n = n ∙ ap (λ ys. ys ++ f j ∷ []) e ∙ sym (map-range_with_len_more f 0 j j (zero-add j))
+
+-- the same after what was there
+pub flat-after : {Y : Type 0} (f : ℕ → List Y) (j : ℕ) (start so_far next : List Y) → so_far ≡ start ++ flat_map f (range_with_len 0 j) → next ≡ so_far ++ f j → next ≡ start ++ flat_map f (range_with_len 0 (j + 1))
+flat-after f j start so_far next e n =
+    n ∙ ap (λ ys. ys ++ f j) e ∙ append_assoc start (flat_map f (range_with_len 0 j)) (f j)
+    ∙ ap (λ ys. start ++ ys) (flat-next f j (flat_map f (range_with_len 0 j)) (flat_map f (range_with_len 0 j) ++ f j) refl refl)
+
+-- pieces of at most so many elements
+pieces-short : {Y : Type 0} (f : ℕ → List Y) (k n most : ℕ) → ((i : ℕ) → i < k + n → length (f i) ≤ most) → length (flat_map f (range_with_len k n)) ≤ n * most
+pieces-short f k n most h =
+    let sum : length (flat_map f (range_with_len k n)) ≡ total (λ i. length (f i)) k n = length-flat_map f (range_with_len k n) ∙ sum-range (λ i. length (f i)) k n in
+    omega (arith, sum, total-le (λ i. length (f i)) (λ i. most) k n (λ i l m. h i m), total-const most k n)
+
+pub flat-short : {Y : Type 0} (f : ℕ → List Y) (j : ℕ) (start so_far : List Y) (most : ℕ) → ((i : ℕ) → i < j → length (f i) ≤ most) → so_far ≡ start ++ flat_map f (range_with_len 0 j) → length so_far ≤ length start + j * most
+flat-short f j start so_far most h e =
+    omega (arith, ap length e, length-append start (flat_map f (range_with_len 0 j)), pieces-short f 0 j most (λ i l. h i (omega arith)))
+
+pub flat-short-from : {Y : Type 0} (f : ℕ → List Y) (k n : ℕ) (start so_far : List Y) (most : ℕ) → ((i : ℕ) → i < k + n → length (f i) ≤ most) → so_far ≡ start ++ flat_map f (range_with_len k n) → length so_far ≤ length start + n * most
+flat-short-from f k n start so_far most h e =
+    omega (arith, ap length e, length-append start (flat_map f (range_with_len k n)), pieces-short f k n most h)

@@ -18,9 +18,13 @@ pub record GridValue : Type 0 where
 unfoldable pub greatest_reach : SceneValue → ℕ → ℕ
 greatest_reach s drift = fold max 0 (map (reach_of s drift) (range_with_len 0 (sphere_count s)))
 
--- the grid of this side, or of the greatest reach where the side is given as 0
+-- the side of the bins: as it is given, or the greatest reach where it is given as 0
+unfoldable pub side_of : ℕ → ℕ → ℕ
+side_of bin greatest = if bin == 0 then greatest else bin
+
+-- the grid that is asked for by a drift limit and a side
 unfoldable pub grid_of : SceneValue → ℕ → ℕ → GridValue
-grid_of s drift bin = record { drift = drift; bin = (if bin == 0 then greatest_reach s drift else bin) }
+grid_of s drift bin = record { drift = drift; bin = side_of bin (greatest_reach s drift) }
 
 -- how many cells on one axis a sphere may meet at most: a closed interval of twice the greatest reach
 unfoldable pub cells_across : SceneValue → GridValue → ℕ

@@ -4,7 +4,7 @@ ghost use Rattle.std.specs.Prelude.{◌≡◌, ◌+◌, ◌^◌, ◌<◌, ◌≤
 ghost use Rattle.dem_model.specs.Centers.{centers_of};
 ghost use Rattle.dem_model.specs.Motion.{AreSound};
 ghost use Rattle.dem_margin.specs.NearList.{IsNearListOf};
-ghost use Rattle.dem_bins.specs.Bins.{greatest_reach, grid_of, cells_across, IsGridOf, most_tests};
+ghost use Rattle.dem_bins.specs.Bins.{greatest_reach, side_of, grid_of, cells_across, IsGridOf, most_tests};
 
 use crate::building::add_all;
 use dem_list::PairList;
@@ -52,7 +52,7 @@ impl Grid {
         ensures many { IfErr result (λ e. MAX_CELLS < e.cells) }
     {
         let most = greatest(shapes, drift);
-        let bin = if bin == 0 { most } else { bin };
+        let bin = side(bin, most);
         let cells = 2 * most / bin + 2;
         if MAX_CELLS < cells {
             return Err(BinTooSmall {
@@ -101,6 +101,19 @@ impl Grid {
     }
 }
 
+/// The side of the bins, in u: as it is given, or the greatest reach where it is given as 0.
+#[tactic(auto, unfolding(crate::specs::Bins::side_of))]
+fn side(bin: u64, greatest: u64) -> u64
+    requires some { 0 < greatest }
+    requires reach { greatest ≤ 2 ^ 38 }
+    requires bin { bin ≤ 2 ^ 38 }
+    ensures value { result ≡ side_of bin greatest }
+    ensures some { 0 < result }
+    ensures size { result ≤ 2 ^ 38 }
+{
+    if bin == 0 { greatest } else { bin }
+}
+
 /// The farthest that any sphere may reach in so many steps, in u per axis.
 fn greatest(shapes: &Shapes, drift: u32) -> u64
     requires drift { drift ≤ 1024 }
@@ -109,7 +122,7 @@ fn greatest(shapes: &Shapes, drift: u32) -> u64
     ensures size { result ≤ 2 ^ 38 }
 {
     let _scene = shapes.scene();
-    let mut most = 0;
+    let mut most: u64 = 0;
     for i in 0..shapes.spheres() {
         most = most.max(reach(shapes, drift, i));
     }

@@ -10,14 +10,16 @@ use Rattle.std.proofs.lemmas.List.Folds.{length-flat_map-take}
 use Rattle.std.proofs.lemmas.List.Elements.{All-tail, All-head}
 use Rattle.dem_num.specs.declared.vector.Vec3.{Vec3}
 use Rattle.dem_model.specs.SceneValue.{SceneValue}
+use Rattle.dem_model.specs.Pairs.{sphere_count, pair_of}
 use Rattle.dem_model.specs.declared.state.Pair.{Pair}
+use Rattle.dem_bins.proofs.RoomFacts.{pair_if_near-short}
 use Rattle.std.proofs.lemmas.List.FromFn.{map-range_with_len_more}
 use Rattle.std.proofs.lemmas.List.Concat.{length-flat_map}
 use Rattle.dem_bins.proofs.SumFacts.{range-more, total, total-le, total-const, sum-range}
 use Rattle.dem_margin.specs.NearList.{pair_if_near}
 use Rattle.dem_bins.specs.Blocks.{block_at, no_block}
 use Rattle.dem_bins.specs.Keys.{sphere_in, column_in}
-use Rattle.dem_bins.specs.Walk.{end_of, first_column, pair_in, meets, visited, met, row_of}
+use Rattle.dem_bins.specs.Walk.{end_of, first_column, pair_in, meets, visited, met, row_of, wall_found}
 use Rattle.dem_bins.specs.declared.blocks.Block.{Block}
 
 -- ---- a list that is mapped and joined, element by element
@@ -202,3 +204,9 @@ flat-short f j start so_far most h e =
 pub flat-short-from : {Y : Type 0} (f : ℕ → List Y) (k n : ℕ) (start so_far : List Y) (most : ℕ) → ((i : ℕ) → i < k + n → length (f i) ≤ most) → so_far ≡ start ++ flat_map f (range_with_len k n) → length so_far ≤ length start + n * most
 flat-short-from f k n start so_far most h e =
     omega (arith, ap length e, length-append start (flat_map f (range_with_len k n)), pieces-short f k n most h)
+
+-- a wall is near each sphere once at most
+pub wall_found-short : (s : SceneValue) (drift : ℕ) (cs : List Vec3) (b : ℕ) → length (wall_found s drift cs b) ≤ sphere_count s
+unfolding wall_found
+wall_found-short s drift cs b =
+    omega (arith, pieces-short (λ a. pair_if_near s drift cs (pair_of a b)) 0 (sphere_count s) 1 (λ i l. pair_if_near-short s drift cs (pair_of i b)))

@@ -1,10 +1,11 @@
 -- How many visits a walk makes, and how many pairs it can find: per two spheres, and in all.
-use Rattle.std.proofs.Common.{◌≡◌, ℕ, ◌+◌, ◌*◌, ◌-◌, ◌<◌, ◌≤◌, List, [], ◌∷◌, ◌++◌, length, refl, sym, ap, ap₂, ◌∙◌, arith, subst, Bool, true, false, inl, inr}
+use Rattle.std.proofs.Common.{◌≡◌, ℕ, ◌+◌, ◌*◌, ◌-◌, ◌<◌, ◌≤◌, List, [], ◌∷◌, ◌++◌, length, get_or, refl, sym, ap, ap₂, ◌∙◌, arith, subst, Bool, true, false, inl, inr}
 use Rattle.std.specs.Prelude.{if◌then◌else◌, ◌==◌, All, min, max}
 use Rattle.std.specs.List.{flat_map, range_with_len, sum_by}
 use Rattle.std.specs.List.Sorted.{IsPermutation}
 use Rattle.std.proofs.lemmas.Bool.{cases_Bool, eq-eqb, eqb-true}
 use Rattle.std.proofs.lemmas.Nat.{mul-le}
+use Rattle.std.proofs.lemmas.List.{get_or_default}
 use Rattle.std.proofs.lemmas.List.Sorted.{sum_by-IsPermutation}
 use Rattle.std.proofs.lemmas.List.Concat.{length-flat_map}
 use Rattle.dem_bins.specs.Blocks.{block_at, no_block, IsBlock, IsSpan}
@@ -163,6 +164,10 @@ all_shared bs = total (λ b. total (λ a. shared (block_at bs a) (block_at bs b)
 pub block_at-good : (bs : List Block) (i : ℕ) → All IsBlock bs → i < length bs → IsBlock (block_at bs i)
 unfolding block_at
 block_at-good bs i all l = all i no_block l
+
+pub block_at-any : (bs : List Block) (i : ℕ) (d : Block) → i < length bs → block_at bs i ≡ get_or bs i d
+unfolding block_at
+block_at-any bs i d l = get_or_default bs i no_block d l
 
 -- a walk makes no more visits than all pairs of blocks share bins
 pub rows_visits-le : (bs : List Block) (es : List ℕ) → All IsBlock bs → length bs ≤ SPHERES → IsPermutation (keys_of bs) es → rows_visits bs es ≤ all_shared bs

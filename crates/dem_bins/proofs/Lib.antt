@@ -8,3 +8,4 @@ pub mod CellFacts
 pub mod WalkFacts
 pub mod NearFacts
 pub mod BoundFacts
+pub mod PlanFacts

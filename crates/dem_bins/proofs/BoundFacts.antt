@@ -38,9 +38,9 @@ all_shared-is s g cs grid inside =
     total-same (λ b. total (λ a. shared (block_at (blocks_of s g cs) a) (block_at (blocks_of s g cs) b)) 0 b) (λ b. total (λ a. bins_shared s g cs a b) 0 b) 0 (sphere_count s)
     (λ b p q. total-same (λ a. shared (block_at (blocks_of s g cs) a) (block_at (blocks_of s g cs) b)) (λ a. bins_shared s g cs a b) 0 b
     (λ a l m.
-      let al : a < sphere_count s = omega arith in
-      let bl : b < sphere_count s = omega arith in
-      ap₂ shared (blocks_of-at s g cs a al) (blocks_of-at s g cs b bl) ∙ shared-is s g cs a b grid al bl (inside a al) (inside b bl))) in
+    let al : a < sphere_count s = omega arith in
+    let bl : b < sphere_count s = omega arith in
+    ap₂ shared (blocks_of-at s g cs a al) (blocks_of-at s g cs b bl) ∙ shared-is s g cs a b grid al bl (inside a al) (inside b bl))) in
     let sums : sum_by (λ b. sum_by (λ a. bins_shared s g cs a b) (range_with_len 0 b)) (range_with_len 0 (sphere_count s)) ≡ total (λ b. total (λ a. bins_shared s g cs a b) 0 b) 0 (sphere_count s) =
     sum-same (λ b. sum_by (λ a. bins_shared s g cs a b) (range_with_len 0 b)) (λ b. total (λ a. bins_shared s g cs a b) 0 b) (range_with_len 0 (sphere_count s)) (λ b. sum-range (λ a. bins_shared s g cs a b) 0 b)
     ∙ sum-range (λ b. total (λ a. bins_shared s g cs a b) 0 b) 0 (sphere_count s) in

@@ -81,10 +81,10 @@ met-le : (bs : List Block) (i j x y u v : ℕ) → IsBlock (block_at bs i) → I
 met-le bs i j x y u v gi gj il jl yl vl =
     elim (cases_Bool (meets bs (key_of (column_of x y) (block_at bs i).z.low i) (key_of (column_of u v) (block_at bs j).z.low j))) [
       | inl e ↦
-        let met : AreMet (column_of x y) (block_at bs i).z.low i (block_at bs i).z.high (column_of u v) (block_at bs j).z.low j =
-        (meets-parts bs (column_of x y) (block_at bs i).z.low i (column_of u v) (block_at bs j).z.low j (block-small (block_at bs i) (block_at bs j) i j gi gj il jl) e).0 in
-        let same : (x ≡ u) × (y ≡ v) = column_of-same x y u v yl vl met.column in
-        rw (e, eq-eqb x u same.0, eq-eqb y v same.1, before-met (block_at bs i).z (block_at bs j).z (column_of x y) i (column_of u v) j met) (omega arith)
+          let met : AreMet (column_of x y) (block_at bs i).z.low i (block_at bs i).z.high (column_of u v) (block_at bs j).z.low j =
+          (meets-parts bs (column_of x y) (block_at bs i).z.low i (column_of u v) (block_at bs j).z.low j (block-small (block_at bs i) (block_at bs j) i j gi gj il jl) e).0 in
+          let same : (x ≡ u) × (y ≡ v) = column_of-same x y u v yl vl met.column in
+          rw (e, eq-eqb x u same.0, eq-eqb y v same.1, before-met (block_at bs i).z (block_at bs j).z (column_of x y) i (column_of u v) j met) (omega arith)
       | inr e ↦ rw e (omega arith)
     ]
 
@@ -180,8 +180,8 @@ rows_visits-le bs es all few h =
     subst (λ (n : ℕ). n ≤ total (λ b. total (λ a. shared (block_at bs a) (block_at bs b)) 0 b) 0 (length bs)) (sym sums)
     (total-le (λ b. total (λ a. visits_of bs a b + visits_of bs b a) 0 b + visits_of bs b b) (λ b. total (λ a. shared (block_at bs a) (block_at bs b)) 0 b) 0 (length bs)
     (λ b p q.
-      let good : IsBlock (block_at bs b) = block_at-good bs b all (omega arith) in
-      let none : visits_of bs b b ≡ 0 = visits_of-itself bs b good (omega arith) in
-      let rest : total (λ a. visits_of bs a b + visits_of bs b a) 0 b ≤ total (λ a. shared (block_at bs a) (block_at bs b)) 0 b =
-      total-le (λ a. visits_of bs a b + visits_of bs b a) (λ a. shared (block_at bs a) (block_at bs b)) 0 b (λ a l m. visits_of-both bs a b (block_at-good bs a all (omega arith)) good (omega arith) (omega arith)) in
-      omega (arith, none, rest)))
+    let good : IsBlock (block_at bs b) = block_at-good bs b all (omega arith) in
+    let none : visits_of bs b b ≡ 0 = visits_of-itself bs b good (omega arith) in
+    let rest : total (λ a. visits_of bs a b + visits_of bs b a) 0 b ≤ total (λ a. shared (block_at bs a) (block_at bs b)) 0 b =
+    total-le (λ a. visits_of bs a b + visits_of bs b a) (λ a. shared (block_at bs a) (block_at bs b)) 0 b (λ a l m. visits_of-both bs a b (block_at-good bs a all (omega arith)) good (omega arith) (omega arith)) in
+    omega (arith, none, rest)))

@@ -66,11 +66,10 @@ meets-parts bs c l i d m j small h =
     let both = and_parts (nat_lt (key_of c l i) (key_of d m j) && nat_lt (key_of d m j) (end_of bs (key_of c l i))) (not (sphere_in (key_of c l i) == sphere_in (key_of d m j))) h in
     let two = and_parts (nat_lt (key_of c l i) (key_of d m j)) (nat_lt (key_of d m j) (end_of bs (key_of c l i))) both.0 in
     let below : key_of d m j < key_of c ((block_at bs i).z.high + 1) 0 =
-    subst (λ (n : ℕ). key_of d m j < n) (end_of-key bs c l i small.low small.sphere) (ltb-true (key_of d m j) (end_of bs (key_of c l i)) two.1) in
-    (
+    subst (λ (n : ℕ). key_of d m j < n) (end_of-key bs c l i small.low small.sphere) (ltb-true (key_of d m j) (end_of bs (key_of c l i)) two.1) in (
       between-keys c l i (block_at bs i).z.high d m j small.low small.sphere small.up small.low_second small.sphere_second (ltb-true (key_of c l i) (key_of d m j) two.0) below,
       λ e. eqb-false (sphere_in (key_of c l i)) (sphere_in (key_of d m j)) (not-true (sphere_in (key_of c l i) == sphere_in (key_of d m j)) both.1)
-      (sphere_in-key c l i small.sphere ∙ e ∙ sym (sphere_in-key d m j small.sphere_second)),
+          (sphere_in-key c l i small.sphere ∙ e ∙ sym (sphere_in-key d m j small.sphere_second)),
     )
 
 -- and what it takes

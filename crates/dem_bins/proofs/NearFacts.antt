@@ -258,14 +258,14 @@ rows_of-whole s drift cs bs es p count few good moved h there share =
     let high' : max p.b p.a ≡ p.b = omega arith in
     elim (cases_lt ((block_at bs p.a).z.low * SPHERES + p.a) ((block_at bs p.b).z.low * SPHERES + p.b)) [
       | inl first ↦
-        rows_of-has s drift cs bs es (first_key (block_at bs p.a) (block_at bs p.b) p.a) (first_key (block_at bs p.b) (block_at bs p.a) p.b) p moved ek dk
-        (subst (λ ps. Contains ps p)
-        (sym (met-has s drift cs bs p.a p.b (omega arith) (omega arith) gi gj share first other ∙ ap₂ (λ (a b : ℕ). pair_if_near s drift cs (pair_of a b)) low high)) (one-has s drift cs p h))
+          rows_of-has s drift cs bs es (first_key (block_at bs p.a) (block_at bs p.b) p.a) (first_key (block_at bs p.b) (block_at bs p.a) p.b) p moved ek dk
+          (subst (λ ps. Contains ps p)
+          (sym (met-has s drift cs bs p.a p.b (omega arith) (omega arith) gi gj share first other ∙ ap₂ (λ (a b : ℕ). pair_if_near s drift cs (pair_of a b)) low high)) (one-has s drift cs p h))
       | inr later ↦
-        rows_of-has s drift cs bs es (first_key (block_at bs p.b) (block_at bs p.a) p.b) (first_key (block_at bs p.a) (block_at bs p.b) p.a) p moved dk ek
-        (subst (λ ps. Contains ps p)
-        (sym (met-has s drift cs bs p.b p.a (omega arith) (omega arith) gj gi (turned (block_at bs p.a) (block_at bs p.b) share) (omega arith) (λ e. other (sym e))
-        ∙ ap₂ (λ (a b : ℕ). pair_if_near s drift cs (pair_of a b)) low' high')) (one-has s drift cs p h))
+          rows_of-has s drift cs bs es (first_key (block_at bs p.b) (block_at bs p.a) p.b) (first_key (block_at bs p.a) (block_at bs p.b) p.a) p moved dk ek
+          (subst (λ ps. Contains ps p)
+          (sym (met-has s drift cs bs p.b p.a (omega arith) (omega arith) gj gi (turned (block_at bs p.a) (block_at bs p.b) share) (omega arith) (λ e. other (sym e))
+          ∙ ap₂ (λ (a b : ℕ). pair_if_near s drift cs (pair_of a b)) low' high')) (one-has s drift cs p h))
     ]
 
 -- what a walk over the blocks of a grid and the walls find is exactly the near pairs
@@ -278,14 +278,14 @@ found-same s g cs es grid few inside keys moved = λ p. (
     | inr d ↦ walls_found-near s g.drift cs p d
   ],
   λ c.
-    let h = near_of-from s g.drift cs p c in
-    elim (cases_lt p.b (sphere_count s)) [
-      | inl there ↦
-        Contains-append_left (rows_of s g.drift cs (blocks_of s g cs) es) (walls_found s g.drift cs) p
-        (rows_of-whole s g.drift cs (blocks_of s g cs) es p keys.count (omega (arith, keys.count)) keys.blocks moved h there
-        (subst (λ b. ShareBlocks b (block_at (blocks_of s g cs) p.b)) (sym (blocks_of-at s g cs p.a h.pair.first))
-        (subst (λ b. ShareBlocks (block_of s g cs p.a) b) (sym (blocks_of-at s g cs p.b there))
-        (near-shares s g cs p.a p.b grid.some there (inside p.a h.pair.first) (inside p.b there) h.is_near))))
-      | inr later ↦ Contains-append_right (rows_of s g.drift cs (blocks_of s g cs) es) (walls_found s g.drift cs) p (walls_found-has s g.drift cs p h later)
-    ],
+      let h = near_of-from s g.drift cs p c in
+      elim (cases_lt p.b (sphere_count s)) [
+        | inl there ↦
+            Contains-append_left (rows_of s g.drift cs (blocks_of s g cs) es) (walls_found s g.drift cs) p
+            (rows_of-whole s g.drift cs (blocks_of s g cs) es p keys.count (omega (arith, keys.count)) keys.blocks moved h there
+            (subst (λ b. ShareBlocks b (block_at (blocks_of s g cs) p.b)) (sym (blocks_of-at s g cs p.a h.pair.first))
+            (subst (λ b. ShareBlocks (block_of s g cs p.a) b) (sym (blocks_of-at s g cs p.b there))
+            (near-shares s g cs p.a p.b grid.some there (inside p.a h.pair.first) (inside p.b there) h.is_near))))
+        | inr later ↦ Contains-append_right (rows_of s g.drift cs (blocks_of s g cs) es) (walls_found s g.drift cs) p (walls_found-has s g.drift cs p h later)
+      ],
 )

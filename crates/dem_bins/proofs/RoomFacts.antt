@@ -86,9 +86,9 @@ unfolding met
 met-first s drift cs bs i j x y u v gi gj il jl yl vl =
     elim (cases_Bool (meets bs (key_of (column_of x y) (block_at bs i).z.low i) (key_of (column_of u v) (block_at bs j).z.low j))) [
       | inl e ↦
-        rw e (found-first s drift cs bs i j x y u v gi gj il jl yl vl
-        (meets-parts bs (column_of x y) (block_at bs i).z.low i (column_of u v) (block_at bs j).z.low j (block-small (block_at bs i) (block_at bs j) i j gi gj il jl) e).0
-        (first_column (block_at bs (sphere_in (key_of (column_of x y) (block_at bs i).z.low i))) (block_at bs (sphere_in (key_of (column_of u v) (block_at bs j).z.low j))) == column_in (key_of (column_of x y) (block_at bs i).z.low i)) refl)
+          rw e (found-first s drift cs bs i j x y u v gi gj il jl yl vl
+          (meets-parts bs (column_of x y) (block_at bs i).z.low i (column_of u v) (block_at bs j).z.low j (block-small (block_at bs i) (block_at bs j) i j gi gj il jl) e).0
+          (first_column (block_at bs (sphere_in (key_of (column_of x y) (block_at bs i).z.low i))) (block_at bs (sphere_in (key_of (column_of u v) (block_at bs j).z.low j))) == column_in (key_of (column_of x y) (block_at bs i).z.low i)) refl)
       | inr e ↦ rw e (omega arith)
     ]
 
@@ -131,7 +131,7 @@ rows_of-le s drift cs bs es all few h =
     let most : total (λ i. total (λ j. found_of s drift cs bs i j) 0 (length bs)) 0 (length bs) ≤ total (λ i. length bs) 0 (length bs) =
     total-le (λ i. total (λ j. found_of s drift cs bs i j) 0 (length bs)) (λ i. length bs) 0 (length bs)
     (λ i p q.
-      let row : total (λ j. found_of s drift cs bs i j) 0 (length bs) ≤ total (λ j. 1) 0 (length bs) =
-      total-le (λ j. found_of s drift cs bs i j) (λ j. 1) 0 (length bs) (λ j l m. found_of-le s drift cs bs i j (block_at-good bs i all (omega arith)) (block_at-good bs j all (omega arith)) (omega arith) (omega arith)) in
-      omega (arith, row, total-const 1 0 (length bs))) in
+    let row : total (λ j. found_of s drift cs bs i j) 0 (length bs) ≤ total (λ j. 1) 0 (length bs) =
+    total-le (λ j. found_of s drift cs bs i j) (λ j. 1) 0 (length bs) (λ j l m. found_of-le s drift cs bs i j (block_at-good bs i all (omega arith)) (block_at-good bs j all (omega arith)) (omega arith) (omega arith)) in
+    omega (arith, row, total-const 1 0 (length bs))) in
     omega (arith, sums, most, total-const (length bs) 0 (length bs))

@@ -73,7 +73,7 @@ unfolding meets
 meets-now bs e d order below other =
     let less : e < d = elim (cases_order e d) [
       | inl same ↦ absurd (other (ap sphere_in same))
-      | inr rest ↦ elim rest [ | inl lt ↦ lt | inr gt ↦ absurd (omega arith) ]
+      | inr rest ↦ elim rest [ inl lt ↦ lt | inr gt ↦ absurd (omega arith) ]
     ] in
     and_from (nat_lt e d && nat_lt d (end_of bs e)) (not (sphere_in e == sphere_in d))
     (and_from (nat_lt e d) (nat_lt d (end_of bs e)) (lt-ltb e d less) (lt-ltb d (end_of bs e) below))
@@ -99,9 +99,9 @@ pub row-begins : (s : SceneValue) (drift : ℕ) (cs : List Vec3) (bs : List Bloc
 row-begins s drift cs bs es i order l =
     none-met s drift cs bs (get_or es i 0) (take (i + 1) es)
     (λ k d lt.
-      let place : k < i + 1 = omega (arith, length-take (i + 1) es) in
-      rw (get_or-take (i + 1) es k d place)
-      (meets-early bs (get_or es i 0) (get_or es k d) (subst (λ (n : ℕ). get_or es k d ≤ n) (get_or_default es i d 0 l) (order k i d (omega arith) l))))
+    let place : k < i + 1 = omega (arith, length-take (i + 1) es) in
+    rw (get_or-take (i + 1) es k d place)
+    (meets-early bs (get_or es i 0) (get_or es k d) (subst (λ (n : ℕ). get_or es k d ≤ n) (get_or_default es i d 0 l) (order k i d (omega arith) l))))
 
 -- nor with those from its end on
 pub row-ends : (s : SceneValue) (drift : ℕ) (cs : List Vec3) (bs : List Block) (es : List ℕ) (e j : ℕ) → IsNonDecreasing es → j < length es → end_of bs e ≤ get_or es j 0 →
@@ -111,10 +111,10 @@ row-ends s drift cs bs es e j order l end =
     let rest : flat_map (met s drift cs bs e) (drop j es) ≡ [] =
     none-met s drift cs bs e (drop j es)
     (λ k d lt.
-      let place : j + k < length es = omega (arith, length-drop j es) in
-      rw (get_or-drop j es k d)
-      (meets-late bs e (get_or es (j + k) d)
-      (let up : get_or es j d ≤ get_or es (j + k) d = order j (j + k) d (omega arith) place in omega (arith, end, up, get_or_default es j d 0 l)))) in
+    let place : j + k < length es = omega (arith, length-drop j es) in
+    rw (get_or-drop j es k d)
+    (meets-late bs e (get_or es (j + k) d)
+    (let up : get_or es j d ≤ get_or es (j + k) d = order j (j + k) d (omega arith) place in omega (arith, end, up, get_or_default es j d 0 l)))) in
     sym (append-nil (flat_map (met s drift cs bs e) (take j es)))
     ∙ ap (λ ys. flat_map (met s drift cs bs e) (take j es) ++ ys) (sym rest)
     ∙ sym (flat_map-append (met s drift cs bs e) (take j es) (drop j es))

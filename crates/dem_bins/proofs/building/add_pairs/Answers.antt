@@ -62,8 +62,8 @@ returns-clause-found g c =
     c.in_ok-walk.ensures.found ∙ ap (λ (ps : List Pair). ps ++ rows_of c.args.shapes.now c.drift.result c.args.centers.now c.as_slice-2.result.now c.as_slice-3.result.now) c.requires.empty in
     on_ok_weaker c.add_walls.result
     (λ (h : c.add_walls.new.raw.pairs ≡ c.walk.new.raw.pairs ++ walls_found c.args.shapes.now c.drift-2.result c.args.centers.now).
-      plan-found c.args.shapes.now c.args.grid.now c.drift.result c.args.centers.now c.as_slice-2.result.now c.as_slice-3.result.now c.add_walls.new.raw.pairs plan c.drift.ensures
-      (h ∙ ap₂ (λ (ps : List Pair) (n : ℕ). ps ++ walls_found c.args.shapes.now n c.args.centers.now) spheres (c.drift-2.ensures ∙ sym c.drift.ensures)))
+    plan-found c.args.shapes.now c.args.grid.now c.drift.result c.args.centers.now c.as_slice-2.result.now c.as_slice-3.result.now c.add_walls.new.raw.pairs plan c.drift.ensures
+    (h ∙ ap₂ (λ (ps : List Pair) (n : ℕ). ps ++ walls_found c.args.shapes.now n c.args.centers.now) spheres (c.drift-2.ensures ∙ sym c.drift.ensures)))
     c.add_walls.ensures.found
 
 pub returns-clause-counted : goal.returns-clause-counted

@@ -10,8 +10,12 @@ use Rattle.dem_bins.proofs.walling.add_wall.Goals as goal
 
 pub add_near-requires-clause-room : goal.add_near-requires-clause-room
 add_near-requires-clause-room g c =
-    omega (arith, c.requires.room, flat-short (λ a. pair_if_near c.args.shapes.now c.args.drift c.args.centers.now (pair_of a c.args.b)) c.loop-a.a c.args.raw.now.pairs c.loop-a.raw.pairs 1
-    (λ a l. pair_if_near-short c.args.shapes.now c.args.drift c.args.centers.now (pair_of a c.args.b)) c.loop-a.invariant.0)
+    omega (
+      arith,
+      c.requires.room,
+      flat-short (λ a. pair_if_near c.args.shapes.now c.args.drift c.args.centers.now (pair_of a c.args.b)) c.loop-a.a c.args.raw.now.pairs c.loop-a.raw.pairs 1
+          (λ a l. pair_if_near-short c.args.shapes.now c.args.drift c.args.centers.now (pair_of a c.args.b)) c.loop-a.invariant.0,
+    )
 
 pub loop-a-preserved : goal.loop-a-preserved
 loop-a-preserved g c = (

@@ -24,6 +24,6 @@ returns-clause-fits c = record {
   some = c.side-bin.ensures.some;
   most = c.side-bin.ensures.size;
   few = (let most : c.greatest-most.result ≡ greatest_reach c.args.shapes.now c.args.drift = c.greatest-most.ensures.value in
-  let same : 2 * c.greatest-most.result / c.side-bin.result + 2 ≡ 2 * greatest_reach c.args.shapes.now c.args.drift / c.side-bin.result + 2 = ap (λ (m : ℕ). 2 * m / c.side-bin.result + 2) most in
-  omega (arith, same, c.if-cells-gt-MAX_CELLS.false));
+      let same : 2 * c.greatest-most.result / c.side-bin.result + 2 ≡ 2 * greatest_reach c.args.shapes.now c.args.drift / c.side-bin.result + 2 = ap (λ (m : ℕ). 2 * m / c.side-bin.result + 2) most in
+      omega (arith, same, c.if-cells-gt-MAX_CELLS.false));
 }

@@ -23,3 +23,9 @@ pub mod Output
 pub mod Ranges
 pub mod Near
 pub mod Carry
+pub mod World
+pub mod TakenRows
+pub mod Exchange
+pub mod ExchangeKinds
+pub mod ExchangeSteps
+pub mod Made

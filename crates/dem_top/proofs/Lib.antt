@@ -1,6 +1,5 @@
-pub mod RunLaw
-pub mod RunFacts
-pub mod LoopFacts
+pub mod LeftFacts
+pub mod SceneFacts
 pub mod JobFacts
 pub mod AnswerFacts
-pub mod PromiseFacts
+pub mod StreamFacts

@@ -9,3 +9,4 @@ pub mod WalkFacts
 pub mod NearFacts
 pub mod BoundFacts
 pub mod PlanFacts
+pub mod FaceFacts

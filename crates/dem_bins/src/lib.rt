@@ -8,6 +8,7 @@
 
 mod blocks;
 mod building;
+mod facing;
 mod grid;
 mod keys;
 mod walking;

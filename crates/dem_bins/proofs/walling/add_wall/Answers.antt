@@ -8,8 +8,8 @@ use Rattle.dem_bins.proofs.RoomFacts.{pair_if_near-short}
 use Rattle.dem_bins.proofs.WalkFacts.{flat-after, flat-short}
 use Rattle.dem_bins.proofs.walling.add_wall.Goals as goal
 
-pub add_near-requires-clause-room : goal.add_near-requires-clause-room
-add_near-requires-clause-room g c =
+pub add_beside-requires-clause-room : goal.add_beside-requires-clause-room
+add_beside-requires-clause-room g c =
     omega (
       arith,
       c.requires.room,
@@ -19,8 +19,8 @@ add_near-requires-clause-room g c =
 
 pub loop-a-preserved : goal.loop-a-preserved
 loop-a-preserved g c = (
-  flat-after (λ a. pair_if_near c.args.shapes.now c.args.drift c.args.centers.now (pair_of a c.args.b)) c.loop-a.a c.args.raw.now.pairs c.loop-a.raw.pairs c.add_near.new.raw.pairs c.loop-a.invariant.0 c.in_ok-add_near.ensures.found,
-  c.add_near.ensures.from ∙ c.loop-a.invariant.1,
+  flat-after (λ a. pair_if_near c.args.shapes.now c.args.drift c.args.centers.now (pair_of a c.args.b)) c.loop-a.a c.args.raw.now.pairs c.loop-a.raw.pairs c.add_beside.new.raw.pairs c.loop-a.invariant.0 c.in_ok-add_beside.ensures.found,
+  c.add_beside.ensures.from ∙ c.loop-a.invariant.1,
   omega (arith, c.tick.ensures, c.loop-a.invariant.2),
 )
 

@@ -246,8 +246,13 @@ spheres_few : (words k : ℕ) (cs : List Clump) → length (spheres_from (made_t
 unfolding spheres_from spheres_of_clump
 spheres_few words k [] = omega arith
 spheres_few words k (c ∷ cs) =
-    omega (arith, length-append (map (sphere_of k) (balls_of (made_templates words) c.t)) (spheres_from (made_templates words) (k + 1) cs),
-    length-map (balls_of (made_templates words) c.t) (sphere_of k), balls_few words c.t, spheres_few words (k + 1) cs)
+    omega (
+      arith,
+      length-append (map (sphere_of k) (balls_of (made_templates words) c.t)) (spheres_from (made_templates words) (k + 1) cs),
+      length-map (balls_of (made_templates words) c.t) (sphere_of k),
+      balls_few words c.t,
+      spheres_few words (k + 1) cs,
+    )
 
 -- ---- the scene
 

@@ -27,12 +27,15 @@ use Rattle.dem_model.specs.declared.state.Held.{Held}
 use Rattle.dem_model.specs.declared.state.Pair.{Pair}
 use Rattle.dem_model.specs.declared.state.State.{State}
 use Rattle.dem_model.proofs.SoundFacts.{clump_at-sound}
+use Rattle.dem_force.specs.Places.{HasPlaces}
+use Rattle.dem_force.specs.Sides.{AreSides}
+use Rattle.dem_force.specs.declared.pushing.spheres.Spheres.{Spheres}
 use Rattle.dem_plain.specs.declared.met.Met.{Met}
-use Rattle.dem_plain.specs.Run.{AreStored, IsNext, IsRun, Advances, Steps}
+use Rattle.dem_plain.specs.Run.{AreStored}
+use Rattle.dem_plain.specs.Inside.{Advances, Holds, IsAfter, IsNext, IsRun}
 use Rattle.dem_plain.specs.declared.stop.Stop.{Stop}
 use Rattle.dem_plain.specs.declared.stop.Stop.TheVariants.{Ended, OutOfMemory}
 use Rattle.dem_model.specs.Spheres.{spheres_of}
-use Rattle.dem_plain.specs.Holds.{Holds}
 
 -- some bodies in front of a result
 abbrev pub with_front : List Body → Result (List Body) End → Result (List Body) End
@@ -205,8 +208,8 @@ held_at-drop es i p d b lt same =
 
 -- the entry is that of the pair
 pub held_found : (es : List Held) (i : ℕ) (p : Pair) (d : Held) → i < length es → same_pair (get_or es i d).pair p ≡ true →
-    held_at (drop i es) p ≡ held_at es p → (get_or es i d).h ≡ unwrap_or (held_at es p) (narrowed no_vector)
-held_found es i p d lt same h = sym (ap (λ o. unwrap_or o (narrowed no_vector)) (sym h ∙ held_at-drop es i p d true lt same))
+    held_at (drop i es) p ≡ held_at es p → Some (get_or es i d).h ≡ held_at es p
+held_found es i p d lt same h = sym (sym h ∙ held_at-drop es i p d true lt same)
 
 -- the entry is that of another pair
 pub held_passed : (es : List Held) (i : ℕ) (p : Pair) (d : Held) → i < length es → same_pair (get_or es i d).pair p ≡ false →
@@ -215,11 +218,11 @@ held_passed es i p d lt same h = sym (held_at-drop es i p d false lt same) ∙ h
 
 -- no entry is that of the pair
 pub held_none : (es : List Held) (i : ℕ) (p : Pair) → length es ≤ i → held_at (drop i es) p ≡ held_at es p →
-    narrowed no_vector ≡ unwrap_or (held_at es p) (narrowed no_vector)
+    None ≡ held_at es p
 unfolding held_at
 held_none es i p le h =
     let none : drop i es ≡ [] = drop_all i es le in
-    sym (ap (λ o. unwrap_or o (narrowed no_vector)) (sym h ∙ ap (λ xs. option_map (λ (e : Held). e.h) (find (λ (e : Held). same_pair e.pair p) xs)) none))
+    sym (sym h ∙ ap (λ xs. option_map (λ (e : Held). e.h) (find (λ (e : Held). same_pair e.pair p) xs)) none)
 
 -- ---- what a run keeps
 
@@ -227,22 +230,26 @@ pub length-centers_of : (s : SceneValue) (bodies : List Body) → length (center
 unfolding centers_of sphere_count
 length-centers_of s bodies = length-map (spheres_of s) (placed bodies)
 
--- a run whose centers are filled is a run
-pub run_kept : (s : SceneValue) (old new : List Vec3) (st : State) (bodies : List Body) → IsRun s old st → new ≡ centers_of s bodies → IsRun s new st
-run_kept s old new st bodies run e = record {
+-- where all spheres are filled there is a center and a side for each
+pub filled_places : (s : SceneValue) (bodies : List Body) (spheres : Spheres) → spheres.centers ≡ centers_of s bodies → AreSides s bodies spheres.sides → HasPlaces s spheres
+filled_places s bodies spheres e sides = record { centers = ap length e ∙ length-centers_of s bodies; sides = sides.count }
+
+-- a run with room is a run
+pub run_kept : (s : SceneValue) (old new : Spheres) (st : State) → IsRun s old st → HasPlaces s new → IsRun s new st
+run_kept s old new st run room = record {
   scene = run.scene;
-  room = ap length e ∙ length-centers_of s bodies;
+  room = room;
   plain = run.plain;
   bodies = run.bodies;
   held = run.held;
 }
 
 -- a run goes on with the next state
-pub run_next : (s : SceneValue) (old new : List Vec3) (st next : State) (bodies : List Body) → IsRun s old st → new ≡ centers_of s bodies →
+pub run_next : (s : SceneValue) (old new : Spheres) (st next : State) → IsRun s old st → HasPlaces s new →
     st.step < s.steps → IsNext s st next → IsRun s new next
-run_next s old new st next bodies run e lt h = record {
+run_next s old new st next run room lt h = record {
   scene = run.scene;
-  room = ap length e ∙ length-centers_of s bodies;
+  room = room;
   plain = plain_next s st next run.plain lt h;
   bodies = h.bodies;
   held = h.held;
@@ -257,10 +264,10 @@ first_is s bodies held e none =
     ∙ ap (λ (h : List Held). let st : State = record { step = 0; bodies = map (λ (c : Clump). c.body) s.clumps; held = h } in st) none
 
 -- a run begins with its first state
-pub run_first : (s shapes : SceneValue) (centers : List Vec3) (bodies : List Body) (held : List Held) → shapes ≡ s → IsSound shapes →
-    length centers ≡ sphere_count shapes → bodies ≡ (first_state s).bodies → held ≡ [] →
-    IsRun shapes centers (record { step = 0; bodies = bodies; held = held })
-run_first s shapes centers bodies held same sound room e none =
+pub run_first : (s shapes : SceneValue) (spheres : Spheres) (bodies : List Body) (held : List Held) → shapes ≡ s → IsSound shapes →
+    HasPlaces shapes spheres → bodies ≡ (first_state s).bodies → held ≡ [] →
+    IsRun shapes spheres (record { step = 0; bodies = bodies; held = held })
+run_first s shapes spheres bodies held same sound room e none =
     let here : bodies ≡ (first_state shapes).bodies = e ∙ ap (λ x. (first_state x).bodies) (sym same) in
     record {
       scene = sound;
@@ -290,7 +297,7 @@ next_made s st met bodies next held loads centers b e l filled h a =
 -- the step stops where the bodies stop
 pub next_stops : (s : SceneValue) (st : State) (met : Met) (stop : Stop) (bodies : List Body) (held : List Held) (loads : List Load) (centers : List Vec3) →
     bodies ≡ st.bodies → held ≡ st.held → loads ≡ met.loads.items → centers ≡ centers_of s st.bodies →
-    Holds s bodies centers held (all_pairs s) met → Advances s (st.step + 1) bodies loads (Err stop) → Steps s st (Err stop)
+    Holds s bodies centers held (all_pairs s) met → Advances s (st.step + 1) bodies loads (Err stop) → IsAfter s st (Err stop)
 next_stops s st met (Ended end) bodies held loads centers b e l filled h a =
     step_ends s st met end centers filled (holds_of s st met bodies held centers b e h)
     (subst (λ xs. advanced_from s (st.step + 1) 0 s.clumps xs met.loads.items ≡ Err end) b

@@ -1,5 +1,7 @@
 -- Finding where the last row begins.
 use Rattle.std.proofs.Common.{◌≡◌, ℕ, zero, suc, ◌+◌, ◌==◌, ◌≤◌, ◌<◌, Bool, true, false, cond, List, [], ◌∷◌, ◌++◌, length, take, refl, sym, ap, ◌∙◌, arith, append_assoc, append-nil, length-append, get_or}
+use Rattle.std.proofs.lemmas.Bool.{ne_eqb}
+use Rattle.std.proofs.lemmas.List.{take_more, length-take-le}
 use Rattle.dem_check.specs.Rows.{joined, rows_of}
 use Rattle.dem_check.specs.Cuts.{HasNoNewline, IsCut}
 
@@ -61,3 +63,21 @@ module _ (bytes : List ℕ) (start rows p c : ℕ) (cut : IsCut bytes start rows
             ∙ ap (λ l. l ++ rows_of xs) (sym rows_are);
         plain = tt;
       }
+
+module _ (bytes : List ℕ) (start rows i d : ℕ) (below : i < length bytes) (so_far : IsCut bytes start rows i × (rows ≤ i)) where
+  next : take (i + 1) bytes ≡ take i bytes ++ get_or bytes i d ∷ []
+  next = take_more bytes i d below
+
+  -- a newline was read
+  pub cut-newline : (start_now rows_now : ℕ) → get_or bytes i d ≡ 10 → start_now ≡ i + 1 → rows_now ≡ rows + 1 → IsCut bytes start_now rows_now (i + 1) × (rows_now ≤ i + 1)
+  cut-newline start_now rows_now is starts more = (
+    rw (starts, more) (IsCut-newline bytes start rows i (get_or bytes i d) so_far.0 next is (length-take-le (i + 1) bytes (omega arith))),
+    omega (arith, so_far.1),
+  )
+
+  -- another byte was read
+  pub cut-more : (start_now rows_now : ℕ) → (get_or bytes i d ≡ 10 → ⊥) → start_now ≡ start → rows_now ≡ rows → IsCut bytes start_now rows_now (i + 1) × (rows_now ≤ i + 1)
+  cut-more start_now rows_now other starts same = (
+    rw (starts, same) (IsCut-more bytes start rows i (get_or bytes i d) so_far.0 next (ne_eqb (get_or bytes i d) 10 other)),
+    omega (arith, so_far.1),
+  )

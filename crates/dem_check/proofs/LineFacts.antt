@@ -1,5 +1,8 @@
 -- The first row of a text.
-use Rattle.std.proofs.Common.{◌≡◌, ℕ, zero, suc, ◌+◌, ◌==◌, ◌≤◌, Bool, true, false, cond, List, [], ◌∷◌, ◌++◌, length, take, Option, None, Some, slice_get, unwrap_or, option_map, option_and_then, refl, sym, ap, ap₂, ◌∙◌, arith}
+use Rattle.std.proofs.Common.{◌≡◌, ℕ, zero, suc, ◌+◌, ◌==◌, ◌≤◌, ◌<◌, Bool, true, false, cond, List, [], ◌∷◌, ◌++◌, length, take, Option, None, Some, slice_get, unwrap_or, option_map, option_and_then, refl, sym, ap, ap₂, ◌∙◌, subst, get_or, arith}
+use Rattle.std.proofs.Math.Seq.{take-nil}
+use Rattle.std.proofs.lemmas.Bool.{ne_eqb}
+use Rattle.std.proofs.lemmas.List.{take_more}
 use Rattle.dem_check.specs.Rows.{joined, line_of, rows_of}
 use Rattle.dem_check.specs.Cuts.{HasNoNewline}
 use Rattle.dem_check.specs.Verdicts.{DiffersFirst, line_at}
@@ -26,11 +29,11 @@ first-or (c ∷ cs) = refl
 pub rows-first : (xs : List ℕ) → slice_get (rows_of xs) 0 ≡ first_row xs
 unfolding rows_of row_to
 rows-first [] = refl
-rows-first (c ∷ cs) = go (c == 10)
+rows-first (c ∷ cs) = go (c == 10) (rows-first cs)
   where
-    go : (b : Bool) → slice_get (cond b ((c ∷ []) ∷ rows_of cs) (joined c (rows_of cs))) 0 ≡ Some (cond b (c ∷ []) (c ∷ row_to cs))
-    go true = refl
-    go false = joined-first c (rows_of cs) ∙ ap (λ o. Some (c ∷ unwrap_or o [])) (rows-first cs) ∙ ap (λ r. Some (c ∷ r)) (first-or cs)
+    go : (b : Bool) → slice_get (rows_of cs) 0 ≡ first_row cs → slice_get (cond b ((c ∷ []) ∷ rows_of cs) (joined c (rows_of cs))) 0 ≡ Some (cond b (c ∷ []) (c ∷ row_to cs))
+    go true first = refl
+    go false first = joined-first c (rows_of cs) ∙ ap (λ o. Some (c ∷ unwrap_or o [])) first ∙ ap (λ r. Some (c ∷ r)) (first-or cs)
 
 to-first : (ys : List ℕ) → slice_get (row_to ys) 0 ≡ slice_get ys 0
 unfolding row_to
@@ -60,7 +63,7 @@ rows-differ tail ys zs plain parts same =
     ∙ ap (option_and_then (λ r. slice_get r (length tail))) (sym (rows-first (tail ++ ys)) ∙ same ∙ rows-first (tail ++ zs))
     ∙ at-tail tail zs plain)
 
-behind : (front back : List (List ℕ)) → slice_get (front ++ back) (length front) ≡ slice_get back 0
+pub behind : (front back : List (List ℕ)) → slice_get (front ++ back) (length front) ≡ slice_get back 0
 behind [] back = refl
 behind (r ∷ rs) back = behind rs back
 
@@ -80,11 +83,11 @@ differs front kept found parts = record {
 line-to : (xs : List ℕ) → line_of (row_to xs) ≡ line_of xs
 unfolding row_to line_of
 line-to [] = refl
-line-to (c ∷ cs) = go (c == 10) refl
+line-to (c ∷ cs) = go (c == 10) refl (line-to cs)
   where
-    go : (b : Bool) → (c == 10) ≡ b → line_of (cond b (c ∷ []) (c ∷ row_to cs)) ≡ cond b [] (c ∷ line_of cs)
-    go true e = rw e refl
-    go false e = rw e (ap (λ l. c ∷ l) (line-to cs))
+    go : (b : Bool) → (c == 10) ≡ b → line_of (row_to cs) ≡ line_of cs → line_of (cond b (c ∷ []) (c ∷ row_to cs)) ≡ cond b [] (c ∷ line_of cs)
+    go true e same = rw e refl
+    go false e same = rw e (ap (λ l. c ∷ l) same)
 
 pub line-through : (tail ys : List ℕ) → HasNoNewline tail → line_of (tail ++ ys) ≡ tail ++ line_of ys
 unfolding line_of
@@ -101,7 +104,7 @@ line-first xs = ap (option_map as_line) (rows-first xs)
 some-row : (c : ℕ) (cs : List ℕ) → line_at (c ∷ cs) 0 ≡ Some (as_line (c ∷ cs))
 some-row c cs = line-first (c ∷ cs) ∙ ap (λ l. Some (record { text = l })) (line-to (c ∷ cs))
 
-has-row : (xs : List ℕ) → (length xs ≡ 0 → ⊥) → line_at xs 0 ≡ Some (as_line xs)
+pub has-row : (xs : List ℕ) → (length xs ≡ 0 → ⊥) → line_at xs 0 ≡ Some (as_line xs)
 has-row [] some = absurd (some refl)
 has-row (c ∷ cs) some = some-row c cs
 
@@ -116,3 +119,44 @@ no_row [] (c ∷ cs) a b = absurd (omega arith)
 pub one_row : (tail more : List ℕ) (line : Line) → HasNoNewline tail → (length (tail ++ more) ≡ 0 → ⊥) → line.text ≡ tail ++ line_of more → Some line ≡ line_at (tail ++ more) 0
 one_row tail more line plain some is =
     ap (λ l. Some (record { text = l })) (is ∙ sym (line-through tail more plain)) ∙ sym (has-row (tail ++ more) some)
+
+-- a line has no newline
+pub line-plain : (xs : List ℕ) → HasNoNewline (line_of xs)
+unfolding line_of
+line-plain [] = tt
+line-plain (c ∷ cs) = go (c == 10) refl (line-plain cs)
+  where
+    go : (b : Bool) → (c == 10) ≡ b → HasNoNewline (line_of cs) → HasNoNewline (cond b [] (c ∷ line_of cs))
+    go true e plain = tt
+    go false e plain = (e, plain)
+
+-- what stands behind a row that is ended doesn't matter
+pub line-ended : (row xs : List ℕ) → HasNoNewline row → line_of (row ++ 10 ∷ xs) ≡ row
+unfolding line_of
+line-ended [] xs plain = refl
+line-ended (c ∷ cs) xs plain = rw (plain.0) (ap (λ l. c ∷ l) (line-ended cs xs plain.1))
+
+pub plain-append : (xs ys : List ℕ) → HasNoNewline xs → HasNoNewline ys → HasNoNewline (xs ++ ys)
+plain-append [] ys a b = b
+plain-append (c ∷ cs) ys a b = (a.0, plain-append cs ys a.1 b)
+
+-- a text without a newline is its line
+pub line-whole : (xs : List ℕ) → HasNoNewline xs → xs ≡ line_of xs
+unfolding line_of
+line-whole [] plain = refl
+line-whole (c ∷ cs) plain = rw (plain.0) (ap (λ l. c ∷ l) (line-whole cs plain.1))
+
+-- the first n bytes are the line, where they have no newline and one or the end follows
+pub line-of-take : (xs : List ℕ) (n : ℕ) → HasNoNewline (take n xs) → (n < length xs → slice_get xs n ≡ Some 10) → n ≤ length xs → take n xs ≡ line_of xs
+unfolding line_of
+line-of-take [] n plain next within = take-nil n
+line-of-take (c ∷ cs) zero plain next within =
+    let is : c ≡ 10 = ap (λ o. unwrap_or o 0) (next (omega arith)) in
+    rw is refl
+line-of-take (c ∷ cs) (suc n) plain next within =
+    rw (plain.0) (ap (λ l. c ∷ l) (line-of-take cs n plain.1 (λ lt. next (omega arith)) (omega arith)))
+
+-- one byte more, which isn't a newline
+pub plain-next : (xs : List ℕ) (n d : ℕ) → n < length xs → (get_or xs n d ≡ 10 → ⊥) → HasNoNewline (take n xs) → HasNoNewline (take (n + 1) xs)
+plain-next xs n d below other plain =
+    subst HasNoNewline (sym (take_more xs n d below)) (plain-append (take n xs) (get_or xs n d ∷ []) plain (ne_eqb (get_or xs n d) 10 other, tt))

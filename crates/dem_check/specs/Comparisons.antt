@@ -1,6 +1,6 @@
 -- A comparison under way: how far the output is that of the text, and the rest of the first row that isn't.
-use Rattle.std.specs.Prelude.{◌≡◌, ℕ, ◌≤◌, ◌⊎◌, Bool, true, false, List, [], ◌∷◌, ◌++◌, length, take, slice_get, Option, Some}
-use Rattle.dem_check.specs.Rows.{line_of}
+use Rattle.std.specs.Prelude.{◌≡◌, ℕ, ◌≤◌, ◌⊎◌, Bool, true, false, List, [], ◌∷◌, ◌++◌, length, take, slice_get, Some}
+use Rattle.dem_check.specs.Cuts.{HasNoNewline}
 
 pub record Comparison : Type 0 where
   -- what the output is compared with
@@ -24,6 +24,6 @@ held_of c = take c.at c.text ++ c.rest
 pub record IsComparison (c : Comparison) : Type 0 where
   pub within : c.at ≤ length c.text
   pub parted : (x : ℕ) (xs : List ℕ) → c.rest ≡ x ∷ xs → slice_get c.text c.at ≡ Some x → ⊥
-  pub ended : c.whole ≡ true → c.rest ≡ line_of c.rest ++ 10 ∷ []
-  pub going : c.whole ≡ false → c.rest ≡ line_of c.rest
+  pub ended : c.whole ≡ true → (row : List ℕ) × (c.rest ≡ row ++ 10 ∷ []) × HasNoNewline row
+  pub going : c.whole ≡ false → HasNoNewline c.rest
   pub stops : (c.faults ≡ 0) ⊎ ((c.whole ≡ true) ⊎ (c.short ≡ true))

@@ -1,5 +1,5 @@
 //! Searches in bytes.
-ghost use Rattle.std.specs.Prelude.{◌≡◌, ◌≤◌, ◌<◌, ◌⊎◌, ⊥, length, take, slice_get, Some};
+ghost use Rattle.std.specs.Prelude.{◌≡◌, ◌≤◌, ◌<◌, ◌⊎◌, length, take, slice_get, Some};
 ghost use Rattle.dem_check.specs.Rows.{line_of};
 
 /// How many bytes two texts have in common at their beginning.

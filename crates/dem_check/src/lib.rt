@@ -7,13 +7,11 @@
 #![tactic(auto)]
 
 mod bytes;
-mod check;
+
 mod comparing;
 mod rows;
 mod verdict;
 
-pub use check::check;
+
 pub use verdict::{Line, Verdict};
 
-#[cfg(test)]
-mod tests;

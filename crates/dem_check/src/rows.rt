@@ -1,5 +1,5 @@
 //! Where the last row of some bytes begins, and a row without its newline.
-ghost use Rattle.std.specs.Prelude.{◌≡◌, ◌++◌, length, IfOk};
+ghost use Rattle.std.specs.Prelude.{◌≡◌, ◌≤◌, ◌++◌, length, IfOk};
 ghost use Rattle.dem_check.specs.Rows.{line_of};
 ghost use Rattle.dem_check.specs.Verdicts.{line_at};
 ghost use Rattle.dem_check.specs.Cuts.{IsCut, HasNoNewline};
@@ -18,7 +18,8 @@ pub(crate) struct Cut {
 
 /// Where the row begins that isn't ended, and how many rows are before it.
 pub(crate) fn last_row(bytes: &[u8]) -> Cut
-    ensures { IsCut bytes.now result.start result.rows (length bytes.now) }
+    ensures cut { IsCut bytes.now result.start result.rows (length bytes.now) }
+    ensures few { result.rows ≤ length bytes.now }
 {
     let mut start = 0;
     let mut rows = 0;
@@ -37,7 +38,7 @@ pub(crate) fn row(alloc: Global, tail: &[u8], more: &[u8]) -> Result<Option<Line
     requires { HasNoNewline tail.now }
     ensures { IfOk result (λ row. row ≡ line_at (tail.now ++ more.now) 0) }
 {
-    if tail.is_empty() && more.is_empty() {
+    if tail.len().saturating_add(more.len()) == 0 {
         return Ok(None);
     }
     Ok(Some(line(alloc, tail, more)?))

@@ -1,5 +1,5 @@
 use Rattle.std.proofs.Common.{◌∙◌, ap}
-use Rattle.dem_gen.specs.Made.{made_clump}
+use Rattle.dem_model.specs.Made.{made_clump}
 use Rattle.dem_gen.proofs.ListFacts.{no_clumps, more_clumps, seven_later}
 use Rattle.dem_gen.proofs.WordFacts.{none_yet}
 use Rattle.dem_gen.proofs.clump.clumps.Goals as goal

@@ -3,7 +3,7 @@ use Rattle.std.proofs.Common.{◌≡◌, ℕ, zero, suc, ◌+◌, ◌-◌, ◌*�
 use Rattle.std.specs.List.{range_with_len}
 use Rattle.std.proofs.lemmas.Bool.{le-leb, lt-leb, cases_lt}
 use Rattle.std.proofs.Math.Nat.{le-mul_of_pos_right}
-use Rattle.dem_gen.specs.Made.{edge_of}
+use Rattle.dem_model.specs.Made.{edge_of}
 
 -- a cube of this edge has a cell for each of so many clumps
 abbrev pub holds : ℕ → ℕ → Bool

@@ -4,7 +4,7 @@ use Rattle.std.specs.List.{range_with_len}
 use Rattle.std.proofs.lemmas.List.FromFn.{map-range_with_len_more}
 use Rattle.dem_model.specs.declared.shape.Template.{Template}
 use Rattle.dem_model.specs.declared.state.Clump.{Clump}
-use Rattle.dem_gen.specs.Made.{made_clump, made_clumps, made_template, made_templates, state_after}
+use Rattle.dem_model.specs.Made.{made_clump, made_clumps, made_template, made_templates, state_after}
 use Rattle.dem_gen.proofs.WordFacts.{after_more}
 
 -- the first n templates

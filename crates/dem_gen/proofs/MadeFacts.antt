@@ -26,7 +26,7 @@ use Rattle.dem_model.specs.declared.shape.Template.{Template}
 use Rattle.dem_model.specs.declared.shape.Wall.{Wall}
 use Rattle.dem_model.specs.declared.state.Body.{Body}
 use Rattle.dem_model.specs.declared.state.Clump.{Clump}
-use Rattle.dem_gen.specs.Made.{edge_of, made_ball, made_clump, made_clumps, made_floor, made_material, made_of, made_place, made_template, made_templates, made_velocity, place_in, speed_from, state_after, word_of}
+use Rattle.dem_model.specs.Made.{edge_of, made_ball, made_clump, made_clumps, made_floor, made_material, made_of, made_place, made_template, made_templates, made_velocity, place_in, speed_from, state_after, word_of}
 
 -- the scene with these lists
 abbrev pub made_with : (edge : ℕ) → List Material → List Template → List Wall → List Clump → SceneValue
@@ -246,8 +246,13 @@ spheres_few : (words k : ℕ) (cs : List Clump) → length (spheres_from (made_t
 unfolding spheres_from spheres_of_clump
 spheres_few words k [] = omega arith
 spheres_few words k (c ∷ cs) =
-    omega (arith, length-append (map (sphere_of k) (balls_of (made_templates words) c.t)) (spheres_from (made_templates words) (k + 1) cs),
-    length-map (balls_of (made_templates words) c.t) (sphere_of k), balls_few words c.t, spheres_few words (k + 1) cs)
+    omega (
+      arith,
+      length-append (map (sphere_of k) (balls_of (made_templates words) c.t)) (spheres_from (made_templates words) (k + 1) cs),
+      length-map (balls_of (made_templates words) c.t) (sphere_of k),
+      balls_few words c.t,
+      spheres_few words (k + 1) cs,
+    )
 
 -- ---- the scene
 

@@ -1,7 +1,7 @@
 -- Words by number, from any state on.
 use Rattle.std.proofs.Common.{◌≡◌, ℕ, zero, suc, ◌+◌, refl, ap, ◌∙◌, sym, arith}
 use Rattle.rand_xoshiro.specs.SplitMix64.{mix_u64}
-use Rattle.dem_gen.specs.Made.{state_after, word_of}
+use Rattle.dem_model.specs.Made.{state_after, word_of}
 
 -- the state after some words and then some more
 pub after_more : (words a b : ℕ) → state_after (state_after words a) b ≡ state_after words (a + b)

@@ -1,6 +1,6 @@
 //! The clumps of a made scene.
 ghost use Rattle.std.specs.Prelude.{◌≡◌, ◌<◌, ◌≤◌, IfOk};
-ghost use Rattle.dem_gen.specs.Made.{made_clump, made_clumps, made_place, made_velocity, place_in, speed_from, state_after};
+ghost use Rattle.dem_model.specs.Made.{made_clump, made_clumps, made_place, made_velocity, place_in, speed_from, state_after};
 
 use crate::words::draw;
 use dem_model::{Body, Clump, List, OutOfMemory, UNIT};
@@ -38,7 +38,7 @@ pub(crate) fn clumps(
 }
 
 // Clump i, by seven words.
-#[tactic(auto, unfolding(crate::specs::Made::made_clump), using(crate::proofs::WordFacts::words))]
+#[tactic(auto, unfolding(dem_model::specs::Made::made_clump), using(crate::proofs::WordFacts::words))]
 fn clump(words: &mut SplitMix64, edge: u64, i: u64) -> Clump
     requires some { 1 ≤ edge }
     requires few { edge ≤ 26 }
@@ -63,7 +63,7 @@ fn clump(words: &mut SplitMix64, edge: u64, i: u64) -> Clump
 }
 
 // The place of clump i.
-#[tactic(auto, unfolding(crate::specs::Made::made_place), using(crate::proofs::WordFacts::words))]
+#[tactic(auto, unfolding(dem_model::specs::Made::made_place), using(crate::proofs::WordFacts::words))]
 fn place(words: &mut SplitMix64, edge: u64, i: u64) -> Vec3
     requires some { 1 ≤ edge }
     requires few { edge ≤ 26 }
@@ -78,7 +78,7 @@ fn place(words: &mut SplitMix64, edge: u64, i: u64) -> Vec3
 }
 
 // A place on one axis: near the middle of the cell of this number.
-#[tactic(auto, unfolding(crate::specs::Made::place_in))]
+#[tactic(auto, unfolding(dem_model::specs::Made::place_in))]
 fn place_in(cell: u64, word: u64) -> i64
     requires { cell < 16384 }
     ensures { result ≡ place_in cell word }
@@ -87,7 +87,7 @@ fn place_in(cell: u64, word: u64) -> i64
 }
 
 // A velocity, by three words.
-#[tactic(auto, unfolding(crate::specs::Made::made_velocity), using(crate::proofs::WordFacts::words))]
+#[tactic(auto, unfolding(dem_model::specs::Made::made_velocity), using(crate::proofs::WordFacts::words))]
 fn velocity(words: &mut SplitMix64) -> Vec3
     ensures value { result ≡ made_velocity words.old }
     ensures after { words.new ≡ state_after words.old 3 }
@@ -99,7 +99,7 @@ fn velocity(words: &mut SplitMix64) -> Vec3
 }
 
 // A velocity on one axis.
-#[tactic(auto, unfolding(crate::specs::Made::speed_from))]
+#[tactic(auto, unfolding(dem_model::specs::Made::speed_from))]
 fn speed_from(word: u64) -> i64
     ensures { result ≡ speed_from word }
 {

@@ -1,6 +1,6 @@
 //! The cube of cells that the clumps of a made scene stand in.
 ghost use Rattle.std.specs.Prelude.{◌≡◌, ◌≤◌, ◌*◌};
-ghost use Rattle.dem_gen.specs.Made.{edge_of};
+ghost use Rattle.dem_model.specs.Made.{edge_of};
 
 /// How many cells an edge of the cube has: the least number with which there is a cell for each clump.
 pub(crate) fn edge(count: u64) -> u64

@@ -1,6 +1,6 @@
 //! The made scene.
 ghost use Rattle.std.specs.Prelude.{◌≡◌, ◌≤◌, [], ◌∷◌, IfOk};
-ghost use Rattle.dem_gen.specs.Made.{made_floor, made_material, made_of};
+ghost use Rattle.dem_model.specs.Made.{made_floor, made_material, made_of};
 
 use crate::clump::clumps;
 use crate::cube::edge;
@@ -15,7 +15,7 @@ use std::alloc::Global;
 ///
 /// Spheres of four radii, 1,000,000 to 1,032,767 u, each in a cell of its own of a cube of cells above a plane, with velocities of at most
 /// 8,388,608 on each axis; 100 steps under gravity. Two calls with the same numbers give the same scene.
-#[tactic(auto, unfolding(crate::specs::Made::made_of))]
+#[tactic(auto, unfolding(dem_model::specs::Made::made_of))]
 pub fn made_scene(alloc: Global, seed: u64, count: u32) -> Result<Scene, OutOfMemory>
     requires some { 1 ≤ count }
     requires many { count ≤ 16384 }

@@ -1,6 +1,6 @@
 //! The templates of a made scene.
 ghost use Rattle.std.specs.Prelude.{◌≡◌, OnOk, IfOk};
-ghost use Rattle.dem_gen.specs.Made.{made_ball, made_template, made_templates, state_after};
+ghost use Rattle.dem_model.specs.Made.{made_ball, made_template, made_templates, state_after};
 
 use crate::words::draw;
 use dem_model::{Ball, List, OutOfMemory, Template};
@@ -35,7 +35,7 @@ pub(crate) fn templates(
 }
 
 // A template of one sphere.
-#[tactic(auto, unfolding(crate::specs::Made::made_template))]
+#[tactic(auto, unfolding(dem_model::specs::Made::made_template))]
 fn template(alloc: Global, words: &mut SplitMix64) -> Result<Template, OutOfMemory>
     ensures value { IfOk result (λ t. t ≡ made_template words.old) }
     ensures after { OnOk result (words.new ≡ state_after words.old 1) }
@@ -54,7 +54,7 @@ fn template(alloc: Global, words: &mut SplitMix64) -> Result<Template, OutOfMemo
 }
 
 // A sphere, whose radius takes one word.
-#[tactic(auto, unfolding(crate::specs::Made::made_ball))]
+#[tactic(auto, unfolding(dem_model::specs::Made::made_ball))]
 fn ball(words: &mut SplitMix64) -> Ball
     ensures value { result ≡ made_ball words.old }
     ensures after { words.new ≡ state_after words.old 1 }

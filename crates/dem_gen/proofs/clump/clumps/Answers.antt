@@ -1,5 +1,5 @@
 use Rattle.std.proofs.Common.{◌∙◌, ap}
-use Rattle.dem_gen.specs.Made.{made_clump}
+use Rattle.dem_model.specs.Made.{made_clump}
 use Rattle.dem_gen.proofs.ListFacts.{no_clumps, more_clumps, seven_later}
 use Rattle.dem_gen.proofs.WordFacts.{none_yet}
 use Rattle.dem_gen.proofs.clump.clumps.Goals as goal
@@ -11,6 +11,6 @@ pub loop-i-preserved : goal.loop-i-preserved
 loop-i-preserved c = (
   c.in_ok-push.ensures.ok
       ∙ more_clumps c.args.words.now c.args.edge c.loop-i.words c.loop-i.i _ _ c.loop-i.invariant.0 c.loop-i.invariant.1
-          (c.clump.ensures.value ∙ ap (made_clump c.loop-i.words c.args.edge) c.from.ensures),
+      (c.clump.ensures.value ∙ ap (made_clump c.loop-i.words c.args.edge) c.from.ensures),
   seven_later c.args.words.now c.loop-i.words c.loop-i.i _ c.loop-i.invariant.1 c.clump.ensures.after,
 )

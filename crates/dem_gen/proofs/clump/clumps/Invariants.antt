@@ -1,5 +1,5 @@
 use Rattle.std.proofs.Common.{◌≡◌, ◌*◌}
-use Rattle.dem_gen.specs.Made.{made_clumps, state_after}
+use Rattle.dem_model.specs.Made.{made_clumps, state_after}
 use Rattle.dem_gen.proofs.clump.clumps.Given as goal
 
 abbrev pub invariant-loop-i : goal.invariant-loop-i

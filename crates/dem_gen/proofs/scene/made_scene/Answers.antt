@@ -1,5 +1,5 @@
 use Rattle.std.proofs.Common.{◌≡◌, ◌∙◌, ◌≤◌, ◌*◌, ap, subst}
-use Rattle.dem_gen.specs.Made.{made_clumps, made_templates, state_after}
+use Rattle.dem_model.specs.Made.{made_clumps, made_templates, state_after}
 use Rattle.dem_gen.proofs.MadeFacts.{sound_of}
 use Rattle.dem_gen.proofs.scene.made_scene.Goals as goal
 

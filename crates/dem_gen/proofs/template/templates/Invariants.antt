@@ -1,5 +1,5 @@
 use Rattle.std.proofs.Common.{◌≡◌}
-use Rattle.dem_gen.specs.Made.{state_after}
+use Rattle.dem_model.specs.Made.{state_after}
 use Rattle.dem_gen.proofs.ListFacts.{first_templates}
 use Rattle.dem_gen.proofs.template.templates.Given as goal
 

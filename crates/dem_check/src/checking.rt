@@ -21,7 +21,9 @@ pub fn check(alloc: Global, scene: &Scene, text: &[u8]) -> Result<Verdict, OutOf
     let short = out.is_short();
     match run {
         Ok(_last) => out.verdict(alloc),
-        Err(RunFault::WriteFault) if !short => out.verdict(alloc),
-        Err(_fault) => Err(OutOfMemory),
+        Err(fault) => match fault {
+            RunFault::WriteFault if !short => out.verdict(alloc),
+            _ => Err(OutOfMemory),
+        },
     }
 }

@@ -11,5 +11,7 @@
 mod advancing;
 mod meeting;
 mod stepper;
+#[cfg(test)]
+mod tests;
 
 pub use stepper::Dyn;

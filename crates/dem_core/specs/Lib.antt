@@ -1,0 +1,2 @@
+pub mod TheWorld
+pub mod TakenRows

@@ -4,7 +4,7 @@ use Rattle.std.specs.List.{flat_map}
 use Rattle.std.specs.Option.{option_map_or}
 use Rattle.dem_num.specs.declared.vector.Vec3.{Vec3}
 use Rattle.dem_model.specs.SceneValue.{SceneValue}
-use Rattle.dem_model.specs.Centres.{centres_of}
+use Rattle.dem_model.specs.Centers.{centers_of}
 use Rattle.dem_model.specs.Near.{near_of}
 use Rattle.dem_model.specs.Carry.{carried}
 use Rattle.dem_model.specs.Step.{held_at, step_of}
@@ -130,9 +130,9 @@ carried_by (Posted snap) = snap
 carried_by (Taken snap) = snap
 carried_by (Delivered snap) = snap
 
--- the list of a snapshot: the near pairs of its centres
+-- the list of a snapshot: the near pairs of its centers
 unfoldable pub list_of : SceneValue → ℕ → Snap → List Pair
-list_of s drift snap = near_of s drift (centres_of s snap.bodies)
+list_of s drift snap = near_of s drift (centers_of s snap.bodies)
 
 -- the run that has taken the list of this snapshot into use
 unfoldable pub collected : SceneValue → ℕ → Course → Snap → Course

@@ -8,7 +8,7 @@ use Rattle.dem_num.specs.Vectors.{widened, Within}
 use Rattle.dem_model.specs.SceneValue.{SceneValue}
 use Rattle.dem_model.specs.Sound.{IsSound}
 use Rattle.dem_model.specs.Carry.{kept_of, carried, Agrees}
-use Rattle.dem_model.specs.Centres.{centres_of}
+use Rattle.dem_model.specs.Centers.{centers_of}
 use Rattle.dem_model.specs.Motion.{AreSound}
 use Rattle.dem_model.specs.Near.{near_of}
 use Rattle.dem_model.specs.Pairs.{all_pairs}
@@ -39,18 +39,18 @@ agrees-same : (s : SceneValue) (st : State) (held : List Held) → held ≡ st.h
 agrees-same s st held e = λ k d lt touches. ap (λ es. held_at es (get_or (all_pairs s) k d)) e
 
 -- the displacements of small pushes are within their range
-fresh-within : (s : SceneValue) (bodies : List Body) (centres : List Vec3) (held : List Held) (ps : List Pair) (loads : List Load) (fresh : List (Option Vec3)) →
-    length ps ≤ length fresh → HaveMet s bodies centres held ps loads fresh → AreWithin (take (length ps) fresh)
-fresh-within s bodies centres held ps loads fresh room met =
-    let stored : AreStored (kept_of ps fresh) = subst AreStored (sym met.kept) (stored_from (meetings s bodies centres held ps) met.small) in
+fresh-within : (s : SceneValue) (bodies : List Body) (centers : List Vec3) (held : List Held) (ps : List Pair) (loads : List Load) (fresh : List (Option Vec3)) →
+    length ps ≤ length fresh → HaveMet s bodies centers held ps loads fresh → AreWithin (take (length ps) fresh)
+fresh-within s bodies centers held ps loads fresh room met =
+    let stored : AreStored (kept_of ps fresh) = subst AreStored (sym met.kept) (stored_from (meetings s bodies centers held ps) met.small) in
     stored-within ps (take (length ps) fresh) (length-take-le (length ps) fresh room) (subst AreStored (sym (kept_of-take ps fresh)) stored)
 
 -- after a step
-pub stepper-next : (s : SceneValue) (drift step : ℕ) (listed : Bool) (bodies next : List Body) (list : Pairs) (entries fresh : List (Option Vec3)) (held : List Held) (centres : List Vec3) (loads : List Load) →
+pub stepper-next : (s : SceneValue) (drift step : ℕ) (listed : Bool) (bodies next : List Body) (list : Pairs) (entries fresh : List (Option Vec3)) (held : List Held) (centers : List Vec3) (loads : List Load) →
     IsStepper s drift step listed bodies (contacts_of list entries) → step < s.steps → step_of s (state_at s step) ≡ Ok (next_state (step + 1) next (kept_of list.pairs fresh)) →
-    AreSound s next → length list.pairs ≤ length fresh → HaveMet s bodies centres held list.pairs loads fresh →
+    AreSound s next → length list.pairs ≤ length fresh → HaveMet s bodies centers held list.pairs loads fresh →
     IsStepper s drift (step + 1) listed next (contacts_of list (take (length list.pairs) fresh))
-stepper-next s drift step listed bodies next list entries fresh held centres loads h lt made sound room met =
+stepper-next s drift step listed bodies next list entries fresh held centers loads h lt made sound room met =
     let plain : plain_at s (step + 1) ≡ Some (next_state (step + 1) next (kept_of list.pairs fresh)) =
     plain-after s step (state_at s step) (next_state (step + 1) next (kept_of list.pairs fresh)) h.plain lt made in
     let is : state_at s (step + 1) ≡ next_state (step + 1) next (kept_of list.pairs fresh) = state_at-is s (step + 1) (next_state (step + 1) next (kept_of list.pairs fresh)) plain in
@@ -62,7 +62,7 @@ stepper-next s drift step listed bodies next list entries fresh held centres loa
       sound = sound;
       ascends = h.ascends;
       as_many = length-take-le (length list.pairs) fresh room;
-      within = fresh-within s bodies centres held list.pairs loads fresh room met;
+      within = fresh-within s bodies centers held list.pairs loads fresh room met;
       agrees = agrees-same s (state_at s (step + 1)) (kept_of list.pairs (take (length list.pairs) fresh)) (kept_of-take list.pairs fresh ∙ ap (λ (x : State). x.held) (sym is));
       near = h.near;
       past = λ e. let p : list.from ≤ step = h.past e in omega arith;
@@ -87,7 +87,7 @@ stepper-adopts s drift step listed bodies old new entries h near ascends past yo
   ascends = ascends;
   as_many = length-carried old.pairs entries new.pairs;
   within = carried-within old.pairs entries new.pairs h.within;
-  agrees = agrees-carried s drift (state_at s step) (centres_of s (state_at s new.from).bodies) old.pairs new.pairs entries
+  agrees = agrees-carried s drift (state_at s step) (centers_of s (state_at s new.from).bodies) old.pairs new.pairs entries
       (list-covers s drift step new h.scene h.plain near past young) near.pairs h.agrees;
   near = λ e. near;
   past = λ e. past;
@@ -128,11 +128,11 @@ first-count s bodies e = ap length e ∙ length-map s.clumps _
 
 -- a list of the near pairs of the state where a run stands, from its step, may be taken into use
 pub near-list-now : (s : SceneValue) (drift : ℕ) (st : State) (list : Pairs) → plain_at s st.step ≡ Some st → list.from ≡ st.step →
-    list.pairs ≡ near_of s drift (centres_of s st.bodies) → IsNearList s drift list
+    list.pairs ≡ near_of s drift (centers_of s st.bodies) → IsNearList s drift list
 near-list-now s drift st list plain from pairs =
     let there : plain_at s list.from ≡ Some st = ap (plain_at s) from ∙ plain in
     let is : state_at s list.from ≡ st = state_at-is s list.from st there in
     record {
       there = there ∙ ap Some (sym is);
-      pairs = pairs ∙ ap (λ (x : State). near_of s drift (centres_of s x.bodies)) (sym is);
+      pairs = pairs ∙ ap (λ (x : State). near_of s drift (centers_of s x.bodies)) (sym is);
     }

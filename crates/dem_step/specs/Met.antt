@@ -33,7 +33,7 @@ pub record ArePairs (s : SceneValue) (ps : List Pair) : Type 0 where
   pub few : (c : ℕ) → pair_count s c ps ≤ most_pairs
 
 -- the loads are the sums over the meetings of these pairs, the entries have their displacements, and each push is small
-pub record HaveMet (s : SceneValue) (bodies : List Body) (centres : List Vec3) (held : List Held) (ps : List Pair) (loads : List Load) (fresh : List (Option Vec3)) : Type 0 where
-  pub sums : loads ≡ loads_of s (meetings s bodies centres held ps)
-  pub kept : kept_of ps fresh ≡ map held_in (meetings s bodies centres held ps)
-  pub small : All (λ (m : Meeting). IsSmall m.push) (meetings s bodies centres held ps)
+pub record HaveMet (s : SceneValue) (bodies : List Body) (centers : List Vec3) (held : List Held) (ps : List Pair) (loads : List Load) (fresh : List (Option Vec3)) : Type 0 where
+  pub sums : loads ≡ loads_of s (meetings s bodies centers held ps)
+  pub kept : kept_of ps fresh ≡ map held_in (meetings s bodies centers held ps)
+  pub small : All (λ (m : Meeting). IsSmall m.push) (meetings s bodies centers held ps)

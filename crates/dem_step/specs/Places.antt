@@ -4,7 +4,7 @@ use Rattle.dem_model.specs.SceneValue.{SceneValue}
 use Rattle.dem_model.specs.Pairs.{sphere_count}
 use Rattle.dem_step.specs.declared.spheres.Spheres.{Spheres}
 
--- there is a centre and a side for each sphere
+-- there is a center and a side for each sphere
 pub record HasPlaces (s : SceneValue) (spheres : Spheres) : Type 0 where
-  pub centres : length spheres.centers ≡ sphere_count s
+  pub centers : length spheres.centers ≡ sphere_count s
   pub sides : length spheres.sides ≡ sphere_count s

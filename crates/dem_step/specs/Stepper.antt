@@ -4,7 +4,7 @@ use Rattle.dem_num.specs.declared.vector.Vec3.{Vec3}
 use Rattle.dem_num.specs.Vectors.{widened, Within}
 use Rattle.dem_model.specs.SceneValue.{SceneValue}
 use Rattle.dem_model.specs.Carry.{kept_of, Agrees}
-use Rattle.dem_model.specs.Centres.{centres_of}
+use Rattle.dem_model.specs.Centers.{centers_of}
 use Rattle.dem_model.specs.Motion.{AreSound}
 use Rattle.dem_model.specs.Near.{near_of}
 use Rattle.dem_model.specs.Pairs.{sphere_count}
@@ -45,7 +45,7 @@ held_by contacts = kept_of contacts.list.pairs contacts.entries
 -- a list is that of the near pairs of the run's state at its step
 pub record IsNearList (s : SceneValue) (drift : ℕ) (list : Pairs) : Type 0 where
   pub there : plain_at s list.from ≡ Some (state_at s list.from)
-  pub pairs : list.pairs ≡ near_of s drift (centres_of s (state_at s list.from).bodies)
+  pub pairs : list.pairs ≡ near_of s drift (centers_of s (state_at s list.from).bodies)
 
 -- each displacement that is held is within its range
 abbrev pub AreWithin : List (Option Vec3) → Type 0
@@ -65,7 +65,7 @@ pub record IsStepper (s : SceneValue) (drift step : ℕ) (listed : Bool) (bodies
   pub near : listed ≡ true → IsNearList s drift contacts.list
   pub past : listed ≡ true → contacts.list.from ≤ step
 
--- the room that was made for a step: a centre and a side per sphere, a load and a body per clump, an entry per pair of the list
+-- the room that was made for a step: a center and a side per sphere, a load and a body per clump, an entry per pair of the list
 pub record HasRoom (s : SceneValue) (spheres : Spheres) (loads : List Load) (next : List Body) (pairs : List Pair) (fresh : List (Option Vec3)) : Type 0 where
   pub places : HasPlaces s spheres
   pub load_each : length loads ≡ length s.clumps

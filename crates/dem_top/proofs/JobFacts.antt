@@ -15,9 +15,9 @@ use Rattle.dem_model.specs.declared.fault.SceneFault.TheVariants as scenes
 use Rattle.dem_model.specs.declared.limits.TheConstants.{MAX_TEXT}
 use Rattle.dem_model.specs.declared.state.Last.{Last}
 use Rattle.dem_scene.specs.Gives.{Fails}
-use Rattle.dem_top.specs.declared.running.RunFault.{RunFault}
-use Rattle.dem_top.specs.declared.running.RunFault.TheVariants as running
-use Rattle.dem_top.specs.Running.{WritesRun}
+use Rattle.dem_output.specs.declared.running.RunFault.{RunFault}
+use Rattle.dem_output.specs.declared.running.RunFault.TheVariants as running
+use Rattle.dem_output.specs.Running.{WritesRun}
 use Rattle.dem_top.specs.Stops.{scene_stop, run_stop}
 use Rattle.dem_top.specs.Verdicts.{asks_plain, Runs, scene_verdict, verdict_of, out_text}
 use Rattle.dem_top.specs.Jobs.{ForLeft, WritesScene, WritesFront, Does}

@@ -1,4 +1,3 @@
-pub mod Running
 pub mod Verdicts
 pub mod Stops
 pub mod Jobs

@@ -3,8 +3,8 @@ use Rattle.dem_model.specs.declared.fault.SceneFault.{SceneFault}
 use Rattle.dem_model.specs.declared.fault.SceneFault.TheVariants as scenes
 use Rattle.dem_top.specs.declared.reading.ReadFault.{ReadFault}
 use Rattle.dem_top.specs.declared.reading.ReadFault.TheVariants as reading
-use Rattle.dem_top.specs.declared.running.RunFault.{RunFault}
-use Rattle.dem_top.specs.declared.running.RunFault.TheVariants as running
+use Rattle.dem_output.specs.declared.running.RunFault.{RunFault}
+use Rattle.dem_output.specs.declared.running.RunFault.TheVariants as running
 use Rattle.dem_top.specs.declared.job.Stop.{Stop}
 use Rattle.dem_top.specs.declared.job.Stop.TheVariants.{Refused, ReadFailed, WriteFailed, OutOfMemory}
 

@@ -5,8 +5,8 @@ ghost use Rattle.dem_top.specs.Jobs.{Does};
 
 use crate::command::asks_plain;
 use crate::reading::{ReadFault, read_all};
-use crate::running::{RunFault, write_run};
 use dem_model::{Last, SceneFault};
+use dem_output::{RunFault, write_run};
 use dem_outside::{Sink, Source};
 use dem_scene::read_scene;
 use std::alloc::Global;

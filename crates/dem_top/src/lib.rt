@@ -10,7 +10,6 @@ mod answer;
 mod command;
 mod job;
 mod reading;
-mod running;
 mod top;
 
 pub use top::main_call;

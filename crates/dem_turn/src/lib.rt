@@ -5,17 +5,17 @@
 //! Not here: the motion of a body (dem_force).
 #![tactic(auto)]
 
-mod reach;
 mod rows;
 mod stepping;
 mod still;
+mod swing;
 #[cfg(test)]
 mod tests;
 mod turning;
 
 pub use dem_num::Rows;
-pub use reach::{arm, swing_limit};
 pub use rows::matrix;
 pub use stepping::turn_step;
 pub use still::is_zero;
+pub use swing::{arm, swing_limit};
 pub use turning::{turned, turned_back, turned_spin};

@@ -1,0 +1,3 @@
+pub mod RunLaw
+pub mod RunFacts
+pub mod LoopFacts

@@ -1,0 +1,99 @@
+//! The plain run of a scene, written while it is made: the frames that are due, and then the end row.
+ghost use Rattle.std.specs.Prelude.{◌≡◌, ◌≤◌, ◌<◌, length, IfOk};
+ghost use Rattle.dem_outside.specs.Faults.{Counts};
+ghost use Rattle.dem_outside.specs.Known.{PutAppends};
+ghost use Rattle.dem_model.specs.Output.{is_due as is_due_of};
+ghost use Rattle.dem_model.specs.Frames.{last_text};
+ghost use Rattle.dem_output.specs.Running.{due_text, MakesStep, WritesRun};
+ghost use Rattle.dem_output.specs.declared.running.RunFault.TheVariants as faults;
+
+use dem_frame::{WriteFault, write_end, write_state};
+use dem_model::{End, Last, OutOfMemory, Scene, State};
+use dem_outside::Sink;
+use dem_plain::{PlainRun, Stop};
+use std::alloc::Global;
+
+/// Why a run stopped before its output was written.
+#[derive(Clone, Copy, PartialEq, Debug)]
+pub enum RunFault {
+    WriteFault,
+    OutOfMemory,
+}
+
+impl From<WriteFault> for RunFault {
+    ghost from_gives = { λ _ f. f ≡ faults.WriteFault };
+
+    fn from(_fault: WriteFault) -> RunFault {
+        RunFault::WriteFault
+    }
+}
+
+impl From<OutOfMemory> for RunFault {
+    ghost from_gives = { λ _ f. f ≡ faults.OutOfMemory };
+
+    fn from(_fault: OutOfMemory) -> RunFault {
+        RunFault::OutOfMemory
+    }
+}
+
+/// Makes the plain run of a scene and writes its output; answers how the run ended.
+pub fn write_run<K: Sink>(alloc: Global, scene: &Scene, out: &mut K) -> Result<Last, RunFault>
+    ensures { WritesRun scene.now (K.held out.old) (K.held out.new) (K.faults out.old) (K.faults out.new) result }
+{
+    let mut run = PlainRun::new(alloc, scene)?;
+    write_due(scene, run.state(), out)?;
+    while run.state().step < scene.steps {
+        if let Some(end) = step_on(scene, &mut run, out)? {
+            return Ok(close(Last::Passed(end), out)?);
+        }
+    }
+    Ok(close(Last::Done { step: scene.steps }, out)?)
+}
+
+// Makes one step and writes the frame of its state, where it is due; answers the limit that the step passes.
+fn step_on<K: Sink>(scene: &Scene, run: &mut PlainRun, out: &mut K) -> Result<Option<End>, RunFault>
+    requires same { run.old.scene ≡ scene.now }
+    requires goes_on { run.old.state.step < scene.now.steps }
+    ensures { MakesStep run.old run.new (K.held out.old) (K.held out.new) (K.faults out.old) (K.faults out.new) result }
+{
+    match run.step() {
+        Ok(()) => {
+            write_due(scene, run.state(), out)?;
+            Ok(None)
+        }
+        Err(Stop::Ended(end)) => Ok(Some(end)),
+        Err(Stop::OutOfMemory) => Err(RunFault::OutOfMemory),
+    }
+}
+
+// Writes the frame of a state, where it is due.
+#[tactic(auto, unfolding(crate::specs::Running::due_text))]
+fn write_due<K: Sink>(scene: &Scene, state: &State, out: &mut K) -> Result<(), WriteFault>
+    requires { length state.now.bodies ≤ 16384 }
+    ensures count { Counts (K.faults out.old) (K.faults out.new) result }
+    ensures written { PutAppends (K.held out.old) (K.held out.new) result (due_text scene.now state.now) }
+{
+    if is_due(scene, state.step) {
+        write_state(out, state)
+    } else {
+        Ok(())
+    }
+}
+
+/// Whether the frame of state `step` is due.
+#[tactic(auto, unfolding(dem_model::specs::Output::is_due))]
+pub fn is_due(scene: &Scene, step: u32) -> bool
+    ensures { result ≡ is_due_of scene.now step }
+{
+    step % scene.every == 0 || step == scene.steps
+}
+
+// Writes the end row, and answers how the run ended.
+fn close<K: Sink>(last: Last, out: &mut K) -> Result<Last, WriteFault>
+    ensures value { IfOk result (λ answer. answer ≡ last) }
+    ensures count { Counts (K.faults out.old) (K.faults out.new) result }
+    ensures written { PutAppends (K.held out.old) (K.held out.new) result (last_text last) }
+{
+    write_end(out, &last)?;
+    Ok(last)
+}

@@ -1,2 +1,4 @@
 pub mod TheWorld
 pub mod TakenRows
+pub mod Courses
+pub mod Rows

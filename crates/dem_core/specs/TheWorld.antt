@@ -1,5 +1,5 @@
 -- The engine on lists: what a world is, which turns it may take, and what a turn makes of it and writes.
-use Rattle.std.specs.Prelude.{ℕ, ◌≡◌, ◌+◌, ◌==◌, Bool, true, false, not, ◌&&◌, List, [], ◌∷◌, ◌++◌, length, map, Option, Some, None, is_some, Result, Ok, Err, nat_lt, nat_le, if◌then◌else◌}
+use Rattle.std.specs.Prelude.{ℕ, ◌≡◌, ◌+◌, ◌==◌, Bool, true, false, not, ◌&&◌, List, [], ◌∷◌, ◌++◌, length, map, Option, Some, None, is_some, option_and_then, Result, Ok, Err, nat_lt, nat_le, if◌then◌else◌}
 use Rattle.std.specs.List.{flat_map}
 use Rattle.std.specs.Option.{option_map_or}
 use Rattle.dem_num.specs.declared.vector.Vec3.{Vec3}
@@ -9,8 +9,8 @@ use Rattle.dem_model.specs.Near.{near_of}
 use Rattle.dem_model.specs.Carry.{carried}
 use Rattle.dem_model.specs.Step.{held_at, step_of}
 use Rattle.dem_model.specs.Plain.{first_state}
-use Rattle.dem_model.specs.Frames.{state_text, last_text, taken_text}
-use Rattle.dem_model.specs.Output.{is_due}
+use Rattle.dem_model.specs.Frames.{last_text, taken_text}
+use Rattle.dem_output.specs.Running.{due_text}
 use Rattle.dem_model.specs.declared.state.Body.{Body}
 use Rattle.dem_model.specs.declared.state.End.{End}
 use Rattle.dem_model.specs.declared.state.Last.{Last}
@@ -134,14 +134,13 @@ carried_by (Delivered snap) = snap
 unfoldable pub list_of : SceneValue → ℕ → Snap → List Pair
 list_of s drift snap = near_of s drift (centers_of s snap.bodies)
 
+-- the run that has taken a list of these pairs from this step into use: each pair keeps what was held of it
+unfoldable pub with_list : Course → ℕ → List Pair → Course
+with_list c from new = record c { from = Some from; pairs = new; entries = carried c.pairs c.entries new; taken_at = c.state.step }
+
 -- the run that has taken the list of this snapshot into use
 unfoldable pub collected : SceneValue → ℕ → Course → Snap → Course
-collected s drift c snap = record c {
-  from = Some snap.step;
-  pairs = list_of s drift snap;
-  entries = carried c.pairs c.entries (list_of s drift snap);
-  taken_at = c.state.step;
-}
+collected s drift c snap = with_list c snap.step (list_of s drift snap)
 
 -- how a run ends that reaches the state of this number, where that is the last
 unfoldable pub done_at : SceneValue → ℕ → Option Last
@@ -195,10 +194,6 @@ first_world s = record { course = first_course s; parcel = Home }
 
 -- ---- what a turn writes
 
--- the frame of a state, where it is due
-unfoldable pub due_text : SceneValue → State → List ℕ
-due_text s st = if is_due s st.step then state_text st else []
-
 -- the end row, where the run has ended
 unfoldable pub end_text : Option Last → List ℕ
 end_text last = option_map_or last_text last []
@@ -224,9 +219,13 @@ made_text s w Step = step_text s (step_of s w.course.state)
 unfoldable pub turn_text : SceneValue → ℕ → World → Turn → List ℕ
 turn_text s drift w turn = if enabled s drift w turn then made_text s w turn else []
 
--- the row of the list of this snapshot, where it is taken into use now
+-- the row of a list of these pairs from this step, where it is taken into use now
+unfoldable pub row_with : Course → ℕ → List Pair → TakenRow
+row_with c from new = record { from = from; at = c.state.step; pairs = length new }
+
+-- the row of the list of this snapshot
 unfoldable pub row_of : SceneValue → ℕ → Course → Snap → TakenRow
-row_of s drift c snap = record { from = snap.step; at = c.state.step; pairs = length (list_of s drift snap) }
+row_of s drift c snap = row_with c snap.step (list_of s drift snap)
 
 -- the taken rows of a turn that the world may take
 unfoldable pub made_rows : SceneValue → ℕ → World → Turn → List TakenRow
@@ -267,7 +266,16 @@ next_turn s drift w =
     if enabled s drift w Step then Step
     else (if enabled s drift w Collect then Collect else (if enabled s drift w Deliver then Deliver else (if enabled s drift w Take then Take else Post)))
 
--- these are the turns with which a world goes on by itself
+-- these are the turns with which a world goes on by itself, as long as its run is open
 abbrev pub GoesOnBy : SceneValue → ℕ → World → List Turn → Type 0
 GoesOnBy s drift w [] = Unit {0}
-GoesOnBy s drift w (turn ∷ turns) = (turn ≡ next_turn s drift w) × GoesOnBy s drift (turned s drift w turn) turns
+GoesOnBy s drift w (turn ∷ turns) = (is_open w.course ≡ true) × (turn ≡ next_turn s drift w) × GoesOnBy s drift (turned s drift w turn) turns
+
+-- the world after a turn, if it may take it
+unfoldable pub goes : SceneValue → ℕ → Turn → World → Option World
+goes s drift turn w = if enabled s drift w turn then Some (turned s drift w turn) else None
+
+-- the world after these turns, if it may take each
+unfoldable pub along : SceneValue → ℕ → Option World → List Turn → Option World
+along s drift o [] = o
+along s drift o (turn ∷ turns) = along s drift (option_and_then (goes s drift turn) o) turns

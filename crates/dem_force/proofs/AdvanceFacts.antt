@@ -21,5 +21,5 @@ advance_of-at s t x b load h = rw h refl
 -- a placed body is sound for a clump with that template
 pub placed-sound : (s : SceneValue) (c : Clump) (x : Template) (r : Result Body EndKind) → slice_get s.templates c.t ≡ Some x → IfOk r (IsPlaced s x.balls) → IfOk r (IsBodyOf s c)
 unfolding balls_of
-placed-sound s c x (Ok b) h p = record { body = p.body; centres = rw h p.centres }
+placed-sound s c x (Ok b) h p = record { body = p.body; centers = rw h p.centers }
 placed-sound s c x (Err e) h p = tt

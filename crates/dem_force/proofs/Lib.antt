@@ -1,5 +1,5 @@
 pub mod AdvanceFacts
-pub mod CentredFacts
+pub mod CenteredFacts
 pub mod LimitFacts
 pub mod MixFacts
 pub mod RangeFacts

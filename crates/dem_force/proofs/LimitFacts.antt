@@ -12,7 +12,7 @@ use Rattle.dem_num.proofs.VectorSizes.{within_wider}
 use Rattle.dem_model.specs.SceneValue.{SceneValue}
 use Rattle.dem_model.specs.Position.{in_box}
 use Rattle.dem_model.specs.Sound.{IsFrom}
-use Rattle.dem_model.specs.Spheres.{centre_of}
+use Rattle.dem_model.specs.Spheres.{center_of}
 use Rattle.dem_model.specs.Advance.{is_over, leaves_box}
 use Rattle.dem_model.specs.declared.limits.TheConstants.{MIN_NORM2, MAX_NORM2}
 use Rattle.dem_model.specs.declared.shape.Ball.{Ball}
@@ -44,10 +44,10 @@ none_pass p xs h = λ i d lt. elim (cases_Bool (p (get_or xs i d))) [
 pub leaves_box-inside : (s : SceneValue) (balls : List Ball) (b : Body) → leaves_box s balls b ≡ false → IsInside s balls b
 unfolding leaves_box
 leaves_box-inside s balls b h =
-    let parts = or_parts (not (in_box s (widened b.p))) (list_any (λ (x : Ball). not (in_box s (centre_of b x))) balls) h in
+    let parts = or_parts (not (in_box s (widened b.p))) (list_any (λ (x : Ball). not (in_box s (center_of b x))) balls) h in
     record {
       place = not-false (in_box s (widened b.p)) parts.0;
-      centres = λ i d lt. not-false (in_box s (centre_of b (get_or balls i d))) (none_pass (λ (x : Ball). not (in_box s (centre_of b x))) balls parts.1 i d lt);
+      centers = λ i d lt. not-false (in_box s (center_of b (get_or balls i d))) (none_pass (λ (x : Ball). not (in_box s (center_of b x))) balls parts.1 i d lt);
     }
 
 -- what was kept inside with a small velocity and spin is placed
@@ -60,6 +60,6 @@ placed_from s balls new (Ok b) inside same v w q = record {
     q = subst (λ (x : Body). IsFrom MIN_NORM2 MAX_NORM2 (quat_norm2_of x.q)) (sym same) (record { low_le = q.long_enough; le_high = q.short_enough });
     p = inside.place;
   };
-  centres = inside.centres;
+  centers = inside.centers;
 }
 placed_from s balls new (Err e) inside same v w q = tt

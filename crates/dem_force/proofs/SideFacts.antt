@@ -6,7 +6,7 @@ use Rattle.std.proofs.lemmas.Grind.{get_or-set_at}
 use Rattle.dem_model.specs.SceneValue.{SceneValue}
 use Rattle.dem_model.specs.Pairs.{sphere_count}
 use Rattle.dem_model.specs.Ranges.{IsFirst, wall_side_of}
-use Rattle.dem_model.specs.Step.{side_of}
+use Rattle.dem_model.specs.Step.{side_at}
 use Rattle.dem_model.specs.declared.law.Side.{Side}
 use Rattle.dem_model.specs.declared.state.Body.{Body}
 use Rattle.dem_shape.specs.declared.pose.Pose.{Pose}
@@ -15,7 +15,7 @@ use Rattle.dem_shape.specs.Pose.{IsPose}
 -- the sides below i are made
 pub record AreMade (s : SceneValue) (bodies : List Body) (i : ℕ) (sides : List Side) : Type 0 where
   pub count : length sides ≡ sphere_count s
-  pub each : (j : ℕ) → j < i → get_or sides j wall_side_of ≡ side_of s bodies j
+  pub each : (j : ℕ) → j < i → get_or sides j wall_side_of ≡ side_at s bodies j
   pub ranges : (j : ℕ) → j < i → IsFirst (get_or sides j wall_side_of)
 
 -- the sides below i are made, and the pose is that of its clump
@@ -29,14 +29,14 @@ before_stays i j sides x lt = get_or-set_other sides i j x wall_side_of (λ (e :
 
 -- one more side is made
 pub AreMade-more : (s : SceneValue) (bodies : List Body) (i : ℕ) (sides : List Side) (x : Side) → i < sphere_count s →
-    x ≡ side_of s bodies i → IsFirst x → AreMade s bodies i sides → AreMade s bodies (i + 1) (set sides i x)
+    x ≡ side_at s bodies i → IsFirst x → AreMade s bodies i sides → AreMade s bodies (i + 1) (set sides i x)
 AreMade-more s bodies i sides x lt e r h = record {
   count = length-set sides i x ∙ h.count;
   each = λ j below. elim (cases_lt j i) [
     | inl l ↦ before_stays i j sides x l ∙ h.each j l
     | inr g ↦
         let same : j ≡ i = omega arith in
-        get_or-set_at sides i j x wall_side_of same (omega (arith, h.count)) ∙ e ∙ ap (side_of s bodies) (sym same)
+        get_or-set_at sides i j x wall_side_of same (omega (arith, h.count)) ∙ e ∙ ap (side_at s bodies) (sym same)
   ];
   ranges = λ j below. elim (cases_lt j i) [
     | inl l ↦ subst IsFirst (sym (before_stays i j sides x l)) (h.ranges j l)

@@ -1,4 +1,4 @@
--- How long the line between two centres is, and where spheres and walls stand.
+-- How long the line between two centers is, and where spheres and walls stand.
 use Rattle.std.proofs.Common.{◌≡◌, ℕ, ◌*◌, ◌<◌, ◌≤◌, arith, ℤ, pos, negsuc, unsigned_abs, true, false, subst, sym, ap, ◌∙◌, List, length, get_or, Some, refl}
 use Rattle.std.specs.Prelude.{All, IsTrue, slice_get, not, ◌&&◌, int_lt}
 use Rattle.std.proofs.lemmas.Bool.{and_parts, ltb-true}
@@ -11,7 +11,7 @@ use Rattle.dem_model.specs.Position.{in_voxels, in_box}
 use Rattle.dem_model.specs.Sound.{IsSound, IsForm, IsWall, IsBetween, EachBetween, IsTemplate, IsBodyOf}
 use Rattle.dem_model.specs.Ranges.{IsWallFor}
 use Rattle.dem_model.specs.Motion.{IsSphere, AreSound}
-use Rattle.dem_model.specs.Centres.{body_at}
+use Rattle.dem_model.specs.Centers.{body_at}
 use Rattle.dem_model.specs.Pairs.{sphere_at}
 use Rattle.dem_model.specs.Advance.{mass_of}
 use Rattle.dem_model.specs.Step.{clump_at, clump_of_sphere, no_clump}

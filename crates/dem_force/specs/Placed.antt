@@ -4,16 +4,16 @@ use Rattle.dem_num.specs.Vectors.{widened}
 use Rattle.dem_model.specs.SceneValue.{SceneValue}
 use Rattle.dem_model.specs.Position.{in_box}
 use Rattle.dem_model.specs.Sound.{IsBody}
-use Rattle.dem_model.specs.Spheres.{centre_of}
+use Rattle.dem_model.specs.Spheres.{center_of}
 use Rattle.dem_model.specs.declared.shape.Ball.{Ball}
 use Rattle.dem_model.specs.declared.state.Body.{Body}
 
--- the body and the centre of each of its spheres are in the box
+-- the body and the center of each of its spheres are in the box
 pub record IsInside (s : SceneValue) (balls : List Ball) (b : Body) : Type 0 where
   pub place : IsTrue (in_box s (widened b.p))
-  pub centres : All (λ (x : Ball). IsTrue (in_box s (centre_of b x))) balls
+  pub centers : All (λ (x : Ball). IsTrue (in_box s (center_of b x))) balls
 
--- the body is within the limits, and the centre of each of its spheres is in the box
+-- the body is within the limits, and the center of each of its spheres is in the box
 pub record IsPlaced (s : SceneValue) (balls : List Ball) (b : Body) : Type 0 where
   pub body : IsBody s b
-  pub centres : All (λ (x : Ball). IsTrue (in_box s (centre_of b x))) balls
+  pub centers : All (λ (x : Ball). IsTrue (in_box s (center_of b x))) balls

@@ -32,16 +32,16 @@ pub fn velocity(gravity: Vec3, mass: u64, v: Vec3, force: Wide3) -> Wide3
     ensures value { result ≡ velocity_after gravity mass v force }
     ensures size { Within result (2 ^ 85) }
 {
-    let near = reciprocal(mass);
+    let inverse = reciprocal(mass);
     Wide3 {
-        x: faster(v.x, gravity.x, force.x, mass, near),
-        y: faster(v.y, gravity.y, force.y, mass, near),
-        z: faster(v.z, gravity.z, force.z, mass, near),
+        x: faster(v.x, gravity.x, force.x, mass, inverse),
+        y: faster(v.y, gravity.y, force.y, mass, inverse),
+        z: faster(v.z, gravity.z, force.z, mass, inverse),
     }
 }
 
-/// A component of the new velocity; the reciprocal of the mass is near this one.
-fn faster(v: i64, gravity: i64, force: i128, mass: u64, near: u64) -> i128
+/// A component of the new velocity; the reciprocal of the mass is about `inverse`.
+fn faster(v: i64, gravity: i64, force: i128, mass: u64, inverse: u64) -> i128
     requires gravity_small { AtMost gravity (2 ^ 20) }
     requires has_mass { 1 ≤ mass }
     requires old_small { AtMost v (2 ^ 40) }
@@ -49,17 +49,17 @@ fn faster(v: i64, gravity: i64, force: i128, mass: u64, near: u64) -> i128
     ensures value { result ≡ v +ℤ gravity +ℤ quotient force (pos mass) }
     ensures size { AtMost result (2 ^ 85) }
 {
-    add(add(v as i128, gravity as i128), share(force, mass, near))
+    add(add(v as i128, gravity as i128), acceleration(force, mass, inverse))
 }
 
-/// A component of force over mass; the reciprocal of the mass is near this one.
-fn share(force: i128, mass: u64, near: u64) -> i128
+/// A component of force over mass; the reciprocal of the mass is about `inverse`.
+fn acceleration(force: i128, mass: u64, inverse: u64) -> i128
     requires has_mass { 1 ≤ mass }
     requires force_small { AtMost force (2 ^ 84) }
     ensures value { result ≡ quotient force (pos mass) }
     ensures size { AtMost result (2 ^ 84) }
 {
-    over(force, mass, near)
+    over(force, mass, inverse)
 }
 
 /// The torque in body axes.
@@ -100,17 +100,17 @@ pub fn spin(moments: Vec3, w: Vec3, torque: Wide3) -> Wide3
 }
 
 /// About the reciprocal of a moment: that of the one before, where they are equal.
-fn next_reciprocal(before: i64, near: u64, moment: i64) -> u64
+fn next_reciprocal(before: i64, inverse: u64, moment: i64) -> u64
     requires { IsBetween (pos 1) (pos MAX_MOMENT) moment }
 {
     if moment == before {
-        near
+        inverse
     } else {
         reciprocal(moment as u64)
     }
 }
 
-/// A component of the new spin, by Euler's equation about a principal axis; the reciprocal of its own moment is near this one.
+/// A component of the new spin, by Euler's equation about a principal axis; the reciprocal of its own moment is about `inverse`.
 #[tactic(auto, unfolding(dem_model::specs::Advance::spin_component))]
 fn spin_part(
     w: i64,
@@ -120,7 +120,7 @@ fn spin_part(
     second: i64,
     u: i64,
     v: i64,
-    near: u64,
+    inverse: u64,
 ) -> i128
     requires own_within { IsBetween (pos 1) (pos MAX_MOMENT) own }
     requires first_within { IsBetween (pos 1) (pos MAX_MOMENT) first }
@@ -133,7 +133,7 @@ fn spin_part(
     ensures size { AtMost result (2 ^ 94) }
 {
     let turning = gyrating(torque, first, second, u, v);
-    add(w as i128, spun_up(turning, own, near))
+    add(w as i128, spun_up(turning, own, inverse))
 }
 
 /// A component of the torque, and of what the spin itself does to it.
@@ -193,14 +193,14 @@ fn times(a: i128, u: i64) -> i128
     mul(a, u as i128)
 }
 
-/// A torque over a moment of inertia, of which the reciprocal is near this one.
-fn spun_up(torque: i128, moment: i64, near: u64) -> i128
+/// A torque over a moment of inertia, of which the reciprocal is about `inverse`.
+fn spun_up(torque: i128, moment: i64, inverse: u64) -> i128
     requires moment_within { IsBetween (pos 1) (pos MAX_MOMENT) moment }
     requires torque_small { AtMost torque (2 ^ 93) }
     ensures value { result ≡ quotient torque moment }
     ensures size { AtMost result (2 ^ 93) }
 {
-    over(torque, moment as u64, near)
+    over(torque, moment as u64, inverse)
 }
 
 /// The new position: the old one, moved by the new velocity.

@@ -15,7 +15,7 @@ ghost use Rattle.dem_num.specs.Rotations.{
 ghost use Rattle.dem_model.specs.Advance.{is_over, leaves_box, swings, limited};
 ghost use Rattle.dem_model.specs.Position.{in_voxels, in_box};
 ghost use Rattle.dem_model.specs.Sound.{IsBall};
-ghost use Rattle.dem_model.specs.Spheres.{centre_of};
+ghost use Rattle.dem_model.specs.Spheres.{center_of};
 ghost use Rattle.dem_force.specs.Placed.{IsInside, IsPlaced};
 
 use crate::advancing::moved;
@@ -64,8 +64,8 @@ pub fn in_box(scene: &Scene, place: Vec3) -> bool
     in_voxels(scene.nx, place.x) && in_voxels(scene.ny, place.y) && in_voxels(scene.nz, place.z)
 }
 
-/// The centre of a sphere, from its clump's place and matrix and its own offset.
-pub fn centre(p: Vec3, rows: &Rows, at: Vec3) -> Vec3
+/// The center of a sphere, from its clump's place and matrix and its own offset.
+pub fn center(p: Vec3, rows: &Rows, at: Vec3) -> Vec3
     requires place { Within (widened p) (2 ^ 37) }
     requires entries { EntriesWithin rows.now (2 ^ 30) }
     requires offset { Within (widened at) (2 ^ 26) }
@@ -96,16 +96,16 @@ fn moved_component(p: i64, offset: i64) -> i64
     p + offset
 }
 
-/// Whether the centre of a sphere lies outside the box.
-#[tactic(auto, unfolding(dem_model::specs::Spheres::centre_of))]
+/// Whether the center of a sphere lies outside the box.
+#[tactic(auto, unfolding(dem_model::specs::Spheres::center_of))]
 fn is_outside(scene: &Scene, body: &Body, rows: &Rows, ball: Ball) -> bool
     requires rows { rows.now ≡ matrix_of body.now.q }
     requires entries { EntriesWithin rows.now (2 ^ 30) }
     requires place { Within (widened body.now.p) (2 ^ 37) }
     requires offset { Within (widened ball.at) (2 ^ 26) }
-    ensures { result ≡ not (in_box scene.now (centre_of body.now ball)) }
+    ensures { result ≡ not (in_box scene.now (center_of body.now ball)) }
 {
-    !in_box(scene, centre(body.p, rows, ball.at))
+    !in_box(scene, center(body.p, rows, ball.at))
 }
 
 /// Whether the turned offset of a sphere changes by more than its swing limit.
@@ -120,13 +120,13 @@ fn swings_far(spin: u64, old: &Rows, new: &Rows, ball: Ball) -> bool
     is_over(swing_limit(spin, arm(ball.at)), swing)
 }
 
-/// Whether the centre of some sphere lies outside the box.
+/// Whether the center of some sphere lies outside the box.
 fn some_outside(scene: &Scene, body: &Body, rows: &Rows, balls: &[Ball]) -> bool
     requires rows { rows.now ≡ matrix_of body.now.q }
     requires entries { EntriesWithin rows.now (2 ^ 30) }
     requires place { Within (widened body.now.p) (2 ^ 37) }
     requires offsets { All (IsBall (length scene.now.materials)) balls.now }
-    ensures { result ≡ list_any (λ x. not (in_box scene.now (centre_of body.now x))) balls.now }
+    ensures { result ≡ list_any (λ x. not (in_box scene.now (center_of body.now x))) balls.now }
 {
     for ball in balls {
         if is_outside(scene, body, rows, *ball) {
@@ -152,7 +152,7 @@ fn some_swings(scene: &Scene, old: &Rows, new: &Rows, balls: &[Ball]) -> bool
     false
 }
 
-/// Whether a body or the centre of one of its spheres lies outside the box.
+/// Whether a body or the center of one of its spheres lies outside the box.
 #[tactic(auto, unfolding(dem_model::specs::Advance::leaves_box))]
 fn leaves(scene: &Scene, body: &Body, rows: &Rows, balls: &[Ball]) -> bool
     requires rows { rows.now ≡ matrix_of body.now.q }
@@ -177,7 +177,7 @@ fn swings_between(scene: &Scene, old: &Body, new: &Body, rows: &Rows, balls: &[B
 }
 
 /// Whether some sphere stands elsewhere than its clump.
-fn some_off_centre(balls: &[Ball]) -> bool
+fn some_off_center(balls: &[Ball]) -> bool
     ensures { result ≡ list_any (λ x. not (is_zero (widened x.at))) balls.now }
 {
     for ball in balls {
@@ -209,9 +209,9 @@ fn turned_in(scene: &Scene, balls: &[Ball], old: &Body, new: Body) -> Result<Bod
 }
 
 /// The new body, unless it leaves the box: where no sphere stands elsewhere than its clump, none can swing.
-#[tactic(auto, using(crate::proofs::CentredFacts::own_leaves, crate::proofs::CentredFacts::own_swings))]
-fn centred_in(scene: &Scene, balls: &[Ball], old: &Body, new: Body) -> Result<Body, EndKind>
-    requires centred { list_any (λ x. not (is_zero (widened x.at))) balls.now ≡ false }
+#[tactic(auto, using(crate::proofs::CenteredFacts::own_leaves, crate::proofs::CenteredFacts::own_swings))]
+fn centered_in(scene: &Scene, balls: &[Ball], old: &Body, new: Body) -> Result<Body, EndKind>
+    requires centered { list_any (λ x. not (is_zero (widened x.at))) balls.now ≡ false }
     ensures value { result ≡ (if leaves_box scene.now balls.now new then Err EndKind.Domain else (if swings scene.now.spin balls.now old.now new then Err EndKind.Swing else Ok new)) }
     ensures same { IfOk result (λ b. b ≡ new) }
     ensures inside { IfOk result (IsInside scene.now balls.now) }
@@ -233,10 +233,10 @@ fn kept_in(scene: &Scene, balls: &[Ball], old: &Body, new: Body) -> Result<Body,
     ensures same { IfOk result (λ b. b ≡ new) }
     ensures inside { IfOk result (IsInside scene.now balls.now) }
 {
-    if some_off_centre(balls) {
+    if some_off_center(balls) {
         turned_in(scene, balls, old, new)
     } else {
-        centred_in(scene, balls, old, new)
+        centered_in(scene, balls, old, new)
     }
 }
 

@@ -1,4 +1,4 @@
-//! How the two sides of a contact move against each other: levers, surface velocities, parts along and across the normal.
+//! How the two sides of a contact move against each other: branches, surface velocities, parts along and across the normal.
 
 ghost use Rattle.std.specs.Prelude.{◌≡◌, pos, ◌^◌, ◌≤◌, ◌*ℤ◌, unsigned_abs};
 ghost use Rattle.dem_num.specs.Numbers.{AtMost, shifted};
@@ -7,8 +7,8 @@ ghost use Rattle.dem_model.specs.Law.{
   contact_radius_of,
   depth_of,
   along,
-  lever_a_of,
-  lever_b_of,
+  branch_a_of,
+  branch_b_of,
   surface_velocity_of,
   relative_velocity_of,
   along_normal,
@@ -17,7 +17,7 @@ ghost use Rattle.dem_model.specs.Law.{
 ghost use Rattle.dem_model.specs.Ranges.{IsBounded};
 
 use crate::short::{short, short3};
-use crate::small::{difference, difference3, floor, product, total3};
+use crate::small::{add3_short, mul_short, sh_short, sub3_short, sub_short};
 use dem_model::Side;
 use dem_num::{Vec3, Wide3, dot, mul, root, sh, sub3, widen};
 
@@ -32,7 +32,7 @@ pub fn contact_radius(radius: u64, delta: u64) -> u64
     root(radius as u128 * delta as u128)
 }
 
-/// The length from a sphere's centre to the contact, in u.
+/// The length from a sphere's center to the contact, in u.
 #[tactic(auto, unfolding(dem_model::specs::Law::depth_of))]
 pub fn depth(r: u32, delta: u64) -> u64
     ensures value { result ≡ depth_of r delta }
@@ -66,66 +66,66 @@ pub fn vector_along(length: i128, n: Vec3) -> Wide3
 }
 
 /// A component of a length along the normal, in u.
-fn reached(length: u64, n: i64) -> i64
+fn offset_component(length: u64, n: i64) -> i64
     requires length_small { length ≤ 2 ^ 26 }
     requires normal { AtMost n (2 ^ 30) }
     ensures value { result ≡ shifted (pos length *ℤ n) 30 }
     ensures size { AtMost result (2 ^ 26) }
 {
-    floor(product(length as i64, n), 30)
+    sh_short(mul_short(length as i64, n), 30)
 }
 
 /// A vector along the normal, of a length in u.
-fn reach(length: u64, n: Vec3) -> Vec3
+fn offset_along(length: u64, n: Vec3) -> Vec3
     requires length_small { length ≤ 2 ^ 26 }
     requires normal { Within (widened n) (2 ^ 30) }
     ensures value { widened result ≡ along (pos length) n }
     ensures size { Within (widened result) (2 ^ 26) }
 {
     Vec3 {
-        x: reached(length, n.x),
-        y: reached(length, n.y),
-        z: reached(length, n.z),
+        x: offset_component(length, n.x),
+        y: offset_component(length, n.y),
+        z: offset_component(length, n.z),
     }
 }
 
 /// From the first clump's position to the contact.
-#[tactic(auto, unfolding(dem_model::specs::Law::lever_a_of))]
-pub fn lever_a(a: &Side, n: Vec3, delta: u64) -> Vec3
+#[tactic(auto, unfolding(dem_model::specs::Law::branch_a_of))]
+pub fn branch_a(a: &Side, n: Vec3, delta: u64) -> Vec3
     requires side { IsBounded a.now }
     requires normal { Within (widened n) (2 ^ 30) }
-    ensures value { widened result ≡ lever_a_of a.now n delta }
+    ensures value { widened result ≡ branch_a_of a.now n delta }
     ensures size { Within (widened result) (2 ^ 29) }
 {
-    difference3(a.lever, reach(depth(a.r, delta), n))
+    sub3_short(a.lever, offset_along(depth(a.r, delta), n))
 }
 
 /// From the second clump's position to the contact.
-#[tactic(auto, unfolding(dem_model::specs::Law::lever_b_of))]
-pub fn lever_b(b: &Side, n: Vec3, delta: u64) -> Vec3
+#[tactic(auto, unfolding(dem_model::specs::Law::branch_b_of))]
+pub fn branch_b(b: &Side, n: Vec3, delta: u64) -> Vec3
     requires side { IsBounded b.now }
     requires normal { Within (widened n) (2 ^ 30) }
-    ensures value { widened result ≡ lever_b_of b.now n delta }
+    ensures value { widened result ≡ branch_b_of b.now n delta }
     ensures size { Within (widened result) (2 ^ 29) }
 {
-    total3(b.lever, reach(depth(b.r, delta), n))
+    add3_short(b.lever, offset_along(depth(b.r, delta), n))
 }
 
-/// The velocity that a spin gives to the end of a lever.
-pub fn swept(spin: Vec3, lever: Vec3) -> Vec3
+/// The velocity that a spin gives to the end of a branch.
+pub fn swept(spin: Vec3, branch: Vec3) -> Vec3
     requires spin_small { Within (widened spin) (2 ^ 30) }
-    requires lever_small { Within (widened lever) (2 ^ 29) }
-    ensures value { widened result ≡ shifted_each (cross_of (widened spin) (widened lever)) 14 }
+    requires branch_small { Within (widened branch) (2 ^ 29) }
+    ensures value { widened result ≡ shifted_each (cross_of (widened spin) (widened branch)) 14 }
     ensures size { Within (widened result) (2 ^ 46) }
 {
     Vec3 {
-        x: swept_part(spin.y, lever.z, spin.z, lever.y),
-        y: swept_part(spin.z, lever.x, spin.x, lever.z),
-        z: swept_part(spin.x, lever.y, spin.y, lever.x),
+        x: swept_part(spin.y, branch.z, spin.z, branch.y),
+        y: swept_part(spin.z, branch.x, spin.x, branch.z),
+        z: swept_part(spin.x, branch.y, spin.y, branch.x),
     }
 }
 
-/// A component of the velocity that a spin gives to the end of a lever.
+/// A component of the velocity that a spin gives to the end of a branch.
 fn swept_part(u: i64, x: i64, v: i64, y: i64) -> i64
     requires u_small { AtMost u (2 ^ 30) }
     requires x_small { AtMost x (2 ^ 29) }
@@ -134,10 +134,10 @@ fn swept_part(u: i64, x: i64, v: i64, y: i64) -> i64
     ensures value { result ≡ shifted (turn_product u x v y) 14 }
     ensures size { AtMost result (2 ^ 46) }
 {
-    floor(crossed(u, x, v, y), 14)
+    sh_short(crossed(u, x, v, y), 14)
 }
 
-/// The product of a spin's and a lever's component, less that of two others.
+/// The product of a spin's and a branch's component, less that of two others.
 #[tactic(auto, unfolding(dem_num::specs::Vectors::turn_product))]
 fn crossed(u: i64, x: i64, v: i64, y: i64) -> i64
     requires u_small { AtMost u (2 ^ 30) }
@@ -147,28 +147,28 @@ fn crossed(u: i64, x: i64, v: i64, y: i64) -> i64
     ensures value { result ≡ turn_product u x v y }
     ensures size { AtMost result (2 ^ 60) }
 {
-    difference(speed_of(u, x), speed_of(v, y))
+    sub_short(speed_of(u, x), speed_of(v, y))
 }
 
-/// The product of a component of a spin and one of a lever.
+/// The product of a component of a spin and one of a branch.
 fn speed_of(u: i64, x: i64) -> i64
     requires u_small { AtMost u (2 ^ 30) }
     requires x_small { AtMost x (2 ^ 29) }
     ensures value { result ≡ u *ℤ x }
     ensures size { AtMost result (2 ^ 59) }
 {
-    product(u, x)
+    mul_short(u, x)
 }
 
 /// The velocity of a side at the contact, in u per step times 2^16.
 #[tactic(auto, unfolding(dem_model::specs::Law::surface_velocity_of))]
-pub fn surface_velocity(side: &Side, lever: Vec3) -> Vec3
+pub fn surface_velocity(side: &Side, branch: Vec3) -> Vec3
     requires side { IsBounded side.now }
-    requires lever_small { Within (widened lever) (2 ^ 29) }
-    ensures value { widened result ≡ surface_velocity_of side.now (widened lever) }
+    requires branch_small { Within (widened branch) (2 ^ 29) }
+    ensures value { widened result ≡ surface_velocity_of side.now (widened branch) }
     ensures size { Within (widened result) (2 ^ 47) }
 {
-    total3(side.v, swept(side.spin, lever))
+    add3_short(side.v, swept(side.spin, branch))
 }
 
 /// The velocity of the first side against the second, at the contact.
@@ -180,9 +180,9 @@ pub fn relative_velocity(a: &Side, b: &Side, n: Vec3, delta: u64) -> Vec3
     ensures value { widened result ≡ relative_velocity_of a.now b.now n delta }
     ensures size { Within (widened result) (2 ^ 48) }
 {
-    difference3(
-        surface_velocity(a, lever_a(a, n, delta)),
-        surface_velocity(b, lever_b(b, n, delta)),
+    sub3_short(
+        surface_velocity(a, branch_a(a, n, delta)),
+        surface_velocity(b, branch_b(b, n, delta)),
     )
 }
 

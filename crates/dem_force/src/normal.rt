@@ -87,11 +87,11 @@ pub fn normal_force(law: &Law, c: u64, delta: u64, mass: u64, speed: i128) -> u6
     ensures size { result ≤ 2 ^ 62 }
 {
     let damped = damping(damping_factor(law.bn, law.kn, c, mass), speed);
-    held_in(sub(elastic_force(law.kn, c, delta), damped))
+    pressing(sub(elastic_force(law.kn, c, delta), damped))
 }
 
 /// The number brought between 0 and the greatest force.
-fn held_in(x: i128) -> u64
+fn pressing(x: i128) -> u64
     ensures value { result ≡ unsigned_abs (int_max (pos 0) (int_min x (pos (2 ^ 62)))) }
     ensures size { result ≤ 2 ^ 62 }
 {

@@ -3,7 +3,7 @@
 ghost use Rattle.std.specs.Prelude.{◌≡◌, pos, ◌^◌, ◌≤◌, ◌*ℤ◌};
 ghost use Rattle.dem_num.specs.Numbers.{AtMost, shifted};
 ghost use Rattle.dem_num.specs.Vectors.{widened, Within, cross_of, opposed};
-ghost use Rattle.dem_model.specs.Law.{force_of, rolling_of, torque_a_of, torque_b_of};
+ghost use Rattle.dem_model.specs.Law.{force_of, friction_torque_of, torque_a_of, torque_b_of};
 ghost use Rattle.dem_model.specs.Ranges.{IsBounded};
 
 use crate::motion::{depth, vector_along};
@@ -24,7 +24,7 @@ pub fn force_on_first(n: Vec3, normal_force: u64, friction: Wide3) -> Wide3
     add3(vector_along(normal_force as i128, n), friction)
 }
 
-/// The torque of a force on a clump, at the centre of its sphere.
+/// The torque of a force on a clump, at the center of its sphere.
 fn lever_torque(lever: Vec3, force: Wide3) -> Wide3
     requires lever_small { Within (widened lever) (2 ^ 28) }
     requires force_small { Within force (2 ^ 63) }
@@ -38,7 +38,7 @@ fn lever_torque(lever: Vec3, force: Wide3) -> Wide3
     }
 }
 
-/// The torque of the opposite force on a clump, at the centre of its sphere.
+/// The torque of the opposite force on a clump, at the center of its sphere.
 fn opposed_torque(lever: Vec3, force: Wide3) -> Wide3
     requires lever_small { Within (widened lever) (2 ^ 28) }
     requires force_small { Within force (2 ^ 63) }
@@ -48,13 +48,13 @@ fn opposed_torque(lever: Vec3, force: Wide3) -> Wide3
     negated3(lever_torque(lever, force))
 }
 
-/// The torque of friction about a sphere's centre, which both sides feel the same way.
-#[tactic(auto, unfolding(dem_model::specs::Law::rolling_of))]
-fn rolling(depth: u64, n: Vec3, friction: Wide3) -> Wide3
+/// The torque of friction about a sphere's center, which both sides feel the same way.
+#[tactic(auto, unfolding(dem_model::specs::Law::friction_torque_of))]
+fn friction_torque(depth: u64, n: Vec3, friction: Wide3) -> Wide3
     requires depth_small { depth ≤ 2 ^ 26 }
     requires normal { Within (widened n) (2 ^ 30) }
     requires friction_small { Within friction (2 ^ 62) }
-    ensures value { result ≡ rolling_of depth n friction }
+    ensures value { result ≡ friction_torque_of depth n friction }
     ensures size { Within result (2 ^ 89) }
 {
     let turned = turned_friction(n, friction);
@@ -97,7 +97,7 @@ pub fn torque_on_first(a: &Side, n: Vec3, delta: u64, force: Wide3, friction: Wi
 {
     sub3(
         lever_torque(a.lever, force),
-        rolling(depth(a.r, delta), n, friction),
+        friction_torque(depth(a.r, delta), n, friction),
     )
 }
 
@@ -113,6 +113,6 @@ pub fn torque_on_second(b: &Side, n: Vec3, delta: u64, force: Wide3, friction: W
 {
     sub3(
         opposed_torque(b.lever, force),
-        rolling(depth(b.r, delta), n, friction),
+        friction_torque(depth(b.r, delta), n, friction),
     )
 }

@@ -5,16 +5,16 @@ ghost use Rattle.dem_num.specs.Numbers.{quotient};
 
 use dem_num::tdiv;
 
-/// The quotient, rounded toward zero; the reciprocal of the divisor is near this one.
+/// The quotient, rounded toward zero; the reciprocal of the divisor is about `inverse`.
 #[tactic(auto, unfolding(dem_num::specs::Numbers::quotient))]
-pub fn over(x: i128, whole: u64, near: u64) -> i128
+pub fn over(x: i128, whole: u64, inverse: u64) -> i128
     requires some { 0 < whole }
     ensures value { result ≡ quotient x (pos whole) }
     ensures size { unsigned_abs result ≡ unsigned_abs x / whole }
 {
     let size = x.unsigned_abs();
     if size <= i64::MAX as u128 {
-        signed(x < 0, whole_quotient(size as u64, whole, near))
+        signed(x < 0, whole_quotient(size as u64, whole, inverse))
     } else {
         tdiv(x, whole as i128)
     }
@@ -33,18 +33,18 @@ fn signed(below: bool, size: u64) -> i128
 }
 
 /// The quotient of two numbers without sign.
-fn whole_quotient(x: u64, whole: u64, near: u64) -> u64
+fn whole_quotient(x: u64, whole: u64, inverse: u64) -> u64
     requires some { 0 < whole }
     requires small { x < 2 ^ 63 }
     ensures value { result ≡ x / whole }
     ensures size { result < 2 ^ 63 }
 {
-    tested(x, whole, guessed(x, whole, near))
+    tested(x, whole, guessed(x, whole, inverse))
 }
 
 /// About the quotient. Nothing rests on it: what is guessed is tested.
-fn guessed(x: u64, whole: u64, near: u64) -> u64 {
-    let product = x as u128 * near as u128;
+fn guessed(x: u64, whole: u64, inverse: u64) -> u64 {
+    let product = x as u128 * inverse as u128;
     (product >> 64) as u64 >> (63u32.saturating_sub(whole.leading_zeros()) & 63)
 }
 

@@ -13,8 +13,8 @@ ghost use Rattle.dem_model.specs.Step.{
   material_at,
   second_material_of,
   law_of,
-  side_from,
   side_of,
+  side_at,
   second_side_of,
   push_of,
 };
@@ -33,20 +33,20 @@ use dem_turn::{matrix, turned, turned_spin};
 pub fn side_of(shapes: &Shapes, body: &Body, sphere: u32) -> Side
     requires sphere { sphere < sphere_count shapes.now }
     requires body { IsBodyOf shapes.now (clump_of_sphere shapes.now sphere) body.now }
-    ensures value { result ≡ side_from shapes.now body.now sphere }
+    ensures value { result ≡ side_of shapes.now body.now sphere }
     ensures ranges { IsFirst result }
 {
     side_by(shapes, body, &matrix(body.q), sphere)
 }
 
 /// The side of a sphere, from the body of its clump and the body's matrix.
-#[tactic(auto, unfolding(dem_model::specs::Step::side_from, dem_model::specs::Step::side_with))]
+#[tactic(auto, unfolding(dem_model::specs::Step::side_of, dem_model::specs::Step::side_with))]
 fn side_by(shapes: &Shapes, body: &Body, rows: &Rows, sphere: u32) -> Side
     requires sphere { sphere < sphere_count shapes.now }
     requires body { IsBodyOf shapes.now (clump_of_sphere shapes.now sphere) body.now }
     requires rows { rows.now ≡ matrix_of body.now.q }
     requires entries { EntriesWithin rows.now (2 ^ 30) }
-    ensures value { result ≡ side_from shapes.now body.now sphere }
+    ensures value { result ≡ side_of shapes.now body.now sphere }
     ensures ranges { IsFirst result }
 {
     let _scene = shapes.scene();
@@ -110,23 +110,23 @@ fn second_material(shapes: &Shapes, pair: Pair) -> Material
 }
 
 /// The side of a sphere, where the bodies are these.
-#[tactic(auto, unfolding(dem_model::specs::Step::side_of))]
+#[tactic(auto, unfolding(dem_model::specs::Step::side_at))]
 pub fn sphere_side(shapes: &Shapes, bodies: &[Body], sphere: u32) -> Side
     requires sphere { sphere < sphere_count shapes.now }
     requires sound { AreSound shapes.now bodies.now }
-    ensures value { result ≡ side_of shapes.now bodies.now sphere }
+    ensures value { result ≡ side_at shapes.now bodies.now sphere }
     ensures ranges { IsFirst result }
 {
     side_of(shapes, &bodies[shapes.clump_of(sphere) as usize], sphere)
 }
 
 /// The side of a sphere, where the bodies are these and the pose is that of the sphere's clump.
-#[tactic(auto, unfolding(dem_model::specs::Step::side_of))]
+#[tactic(auto, unfolding(dem_model::specs::Step::side_at))]
 pub fn posed_side(shapes: &Shapes, bodies: &[Body], pose: &Pose, sphere: u32) -> Side
     requires sphere { sphere < sphere_count shapes.now }
     requires sound { AreSound shapes.now bodies.now }
     requires pose { IsPose shapes.now bodies.now (sphere_at shapes.now sphere).clump pose.now }
-    ensures value { result ≡ side_of shapes.now bodies.now sphere }
+    ensures value { result ≡ side_at shapes.now bodies.now sphere }
     ensures ranges { IsFirst result }
 {
     let body = &bodies[shapes.clump_of(sphere) as usize];

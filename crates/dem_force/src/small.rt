@@ -7,7 +7,7 @@ ghost use Rattle.dem_num.specs.Vectors.{widened, sum_of, difference_of, Within};
 use dem_num::Vec3;
 
 /// The product of two numbers.
-pub fn product(a: i64, b: i64) -> i64
+pub fn mul_short(a: i64, b: i64) -> i64
     requires { unsigned_abs a * unsigned_abs b < 2 ^ 63 }
     ensures value { result ≡ a *ℤ b }
     ensures size { unsigned_abs result ≡ unsigned_abs a * unsigned_abs b }
@@ -16,7 +16,7 @@ pub fn product(a: i64, b: i64) -> i64
 }
 
 /// The sum of two numbers.
-pub fn total(a: i64, b: i64) -> i64
+pub fn add_short(a: i64, b: i64) -> i64
     requires { unsigned_abs a + unsigned_abs b < 2 ^ 63 }
     ensures value { result ≡ a +ℤ b }
     ensures size { unsigned_abs result ≤ unsigned_abs a + unsigned_abs b }
@@ -25,7 +25,7 @@ pub fn total(a: i64, b: i64) -> i64
 }
 
 /// The first number less the second.
-pub fn difference(a: i64, b: i64) -> i64
+pub fn sub_short(a: i64, b: i64) -> i64
     requires { unsigned_abs a + unsigned_abs b < 2 ^ 63 }
     ensures value { result ≡ a -ℤ b }
     ensures size { unsigned_abs result ≤ unsigned_abs a + unsigned_abs b }
@@ -35,7 +35,7 @@ pub fn difference(a: i64, b: i64) -> i64
 
 /// The floor of `x / 2^k`.
 #[tactic(auto, unfolding(dem_num::specs::Numbers::shifted))]
-pub fn floor(x: i64, k: u32) -> i64
+pub fn sh_short(x: i64, k: u32) -> i64
     requires { k ≤ 62 }
     ensures value { result ≡ shifted x k }
     ensures size { unsigned_abs result ≤ (unsigned_abs x + 2 ^ k - 1) / 2 ^ k }
@@ -44,27 +44,27 @@ pub fn floor(x: i64, k: u32) -> i64
 }
 
 /// The sum of two vectors.
-pub fn total3(a: Vec3, b: Vec3) -> Vec3
+pub fn add3_short(a: Vec3, b: Vec3) -> Vec3
     requires first { Within (widened a) (2 ^ 61) }
     requires second { Within (widened b) (2 ^ 61) }
     ensures { widened result ≡ sum_of (widened a) (widened b) }
 {
     Vec3 {
-        x: total(a.x, b.x),
-        y: total(a.y, b.y),
-        z: total(a.z, b.z),
+        x: add_short(a.x, b.x),
+        y: add_short(a.y, b.y),
+        z: add_short(a.z, b.z),
     }
 }
 
 /// The first vector less the second.
-pub fn difference3(a: Vec3, b: Vec3) -> Vec3
+pub fn sub3_short(a: Vec3, b: Vec3) -> Vec3
     requires first { Within (widened a) (2 ^ 61) }
     requires second { Within (widened b) (2 ^ 61) }
     ensures { widened result ≡ difference_of (widened a) (widened b) }
 {
     Vec3 {
-        x: difference(a.x, b.x),
-        y: difference(a.y, b.y),
-        z: difference(a.z, b.z),
+        x: sub_short(a.x, b.x),
+        y: sub_short(a.y, b.y),
+        z: sub_short(a.z, b.z),
     }
 }

@@ -1,4 +1,4 @@
-//! How two spheres touch: along the line of their centres, as deep as their radii reach over it.
+//! How two spheres touch: along the line of their centers, as deep as their radii reach over it.
 
 ghost use Rattle.std.specs.Prelude.{◌≡◌, pos, ◌*◌, ◌^◌, ◌<◌, ◌≤◌, ◌-ℤ◌, ◌*ℤ◌, IfSome, unsigned_abs};
 ghost use Rattle.dem_num.specs.Numbers.{AtMost, quotient, root_of, square_of};
@@ -11,10 +11,10 @@ ghost use Rattle.dem_model.specs.declared.limits.TheConstants.{UNIT, MAX_OVERLAP
 use dem_model::{Touch, UNIT};
 use dem_num::{Vec3, Wide3, narrow, reciprocal, root, share};
 
-/// How two spheres touch, from the centre of the first less that of the second and their radii together, in u.
+/// How two spheres touch, from the center of the first less that of the second and their radii together, in u.
 #[tactic(auto, unfolding(dem_model::specs::Touch::spheres_touch))]
-pub fn touch_spheres(d: Wide3, radii: u64) -> Option<Touch>
-    requires near { Within d (2 ^ 37) }
+pub fn spheres_touch(d: Wide3, radii: u64) -> Option<Touch>
+    requires close { Within d (2 ^ 37) }
     requires radii_small { radii ≤ 2 ^ 27 }
     ensures value { result ≡ spheres_touch d radii }
     ensures ranges { IfSome result IsTouch }
@@ -41,11 +41,11 @@ fn overlap(radii: u64, distance: u64) -> i64
     radii as i64 - distance as i64
 }
 
-/// The direction of a difference of centres, times 2^30; along x where the centres are one.
+/// The direction of a difference of centers, times 2^30; along x where the centers are one.
 #[tactic(auto, unfolding(dem_model::specs::Touch::normal_of))]
 fn normal(d: Wide3, distance: u64) -> Vec3
     requires length { distance ≡ root_of (norm2_of d) }
-    requires near { distance ≤ 2 ^ 38 }
+    requires close { distance ≤ 2 ^ 38 }
     ensures value { result ≡ normal_of d }
     ensures size { Within (widened result) (2 ^ 30) }
 {
@@ -65,35 +65,35 @@ fn normal(d: Wide3, distance: u64) -> Vec3
 fn direction(d: Wide3, distance: u64) -> Vec3
     requires length { distance ≡ root_of (norm2_of d) }
     requires some { 0 < distance }
-    requires near { distance ≤ 2 ^ 38 }
+    requires close { distance ≤ 2 ^ 38 }
     ensures x { result.x ≡ quotient (pos UNIT *ℤ d.x) (pos distance) }
     ensures y { result.y ≡ quotient (pos UNIT *ℤ d.y) (pos distance) }
     ensures z { result.z ≡ quotient (pos UNIT *ℤ d.z) (pos distance) }
     ensures size { Within (widened result) (2 ^ 30) }
 {
-    let near = reciprocal(distance);
+    let inverse = reciprocal(distance);
     Vec3 {
-        x: part(d.x, distance, near),
-        y: part(d.y, distance, near),
-        z: part(d.z, distance, near),
+        x: part(d.x, distance, inverse),
+        y: part(d.y, distance, inverse),
+        z: part(d.z, distance, inverse),
     }
 }
 
-/// A component over the length, times 2^30; the reciprocal of the length is near this one.
-fn part(e: i128, distance: u64, near: u64) -> i64
+/// A component over the length, times 2^30; the reciprocal of the length is about `inverse`.
+fn part(e: i128, distance: u64, inverse: u64) -> i64
     requires some { 0 < distance }
     requires part { unsigned_abs e ≤ distance }
-    requires near { distance ≤ 2 ^ 38 }
+    requires close { distance ≤ 2 ^ 38 }
     ensures value { result ≡ quotient (pos UNIT *ℤ e) (pos distance) }
     ensures size { AtMost result (2 ^ 30) }
 {
-    share(e, distance, near)
+    share(e, distance, inverse)
 }
 
-/// The square of the distance between two centres.
+/// The square of the distance between two centers.
 #[tactic(auto, unfolding(dem_num::specs::Vectors::norm2_of))]
 fn distance2(d: Wide3) -> u128
-    requires near { Within d (2 ^ 37) }
+    requires close { Within d (2 ^ 37) }
     ensures { result ≡ norm2_of d }
 {
     squared(d.x) + squared(d.y) + squared(d.z)

@@ -2,21 +2,21 @@
 
 ghost use Rattle.std.specs.Prelude.{◌≡◌, pos, ◌+◌, ◌^◌, ◌<◌, ◌≤◌, IfSome, length};
 ghost use Rattle.dem_num.specs.Vectors.{widened, difference_of, Within};
-ghost use Rattle.dem_model.specs.Centres.{touch_of, centre_at};
+ghost use Rattle.dem_model.specs.Centers.{touch_of, center_at};
 ghost use Rattle.dem_model.specs.Motion.{AreInside, IsPair};
 ghost use Rattle.dem_model.specs.Pairs.{sphere_count, limit_of, sphere_at, wall_at};
 ghost use Rattle.dem_model.specs.Ranges.{IsTouch, IsWallFor};
 ghost use Rattle.dem_model.specs.Sound.{EachBetween, IsWall};
 ghost use Rattle.dem_model.specs.declared.limits.TheConstants.{MAX_POINT};
 
-use crate::spheres::touch_spheres;
+use crate::spheres::spheres_touch;
 use dem_model::{Pair, Steps, Touch, Wall};
 use dem_num::{Vec3, Wide3, sub3, widen};
 use dem_shape::{Centers, Shapes};
 use dem_wall::wall_touch;
 use std::sync::ledger::Ledger;
 
-/// Whether a pair touches, where the centres are these: the normal, which pushes the first along it, and the overlap in u. It counts one test.
+/// Whether a pair touches, where the centers are these: the normal, which pushes the first along it, and the overlap in u. It counts one test.
 pub fn touch<L: Ledger>(
     shapes: &Shapes,
     centers: &Centers,
@@ -24,27 +24,27 @@ pub fn touch<L: Ledger>(
     tests: &mut Steps<L>,
 ) -> Option<Touch>
     requires pair { IsPair shapes.now pair }
-    requires centres { AreInside shapes.now centers.now }
+    requires centers { AreInside shapes.now centers.now }
     ensures value { result ≡ touch_of shapes.now centers.now pair }
     ensures ranges { IfSome result IsTouch }
     ensures counted { tests.new ≡ tests.old + 1 }
 {
     tests.tick();
-    tested(shapes, centers, pair)
+    pair_touch(shapes, centers, pair)
 }
 
 /// Whether and how a pair touches.
-#[tactic(auto, unfolding(dem_model::specs::Centres::touch_of))]
-fn tested(shapes: &Shapes, centers: &Centers, pair: Pair) -> Option<Touch>
+#[tactic(auto, unfolding(dem_model::specs::Centers::touch_of))]
+fn pair_touch(shapes: &Shapes, centers: &Centers, pair: Pair) -> Option<Touch>
     requires pair { IsPair shapes.now pair }
-    requires centres { AreInside shapes.now centers.now }
+    requires centers { AreInside shapes.now centers.now }
     ensures value { result ≡ touch_of shapes.now centers.now pair }
     ensures ranges { IfSome result IsTouch }
 {
     let first = center(shapes, centers, pair.a);
     if pair.b < shapes.spheres() {
         let second = center(shapes, centers, pair.b);
-        touch_spheres(between(first, second), radii(shapes, pair))
+        spheres_touch(between(first, second), radii(shapes, pair))
     } else {
         let wall = wall_beside(shapes, pair);
         wall_touch(&wall, first, shapes.ball_of(pair.a).r)
@@ -71,11 +71,11 @@ fn radii(shapes: &Shapes, pair: Pair) -> u64
     shapes.ball_of(pair.a).r as u64 + shapes.ball_of(pair.b).r as u64
 }
 
-/// The centre of a sphere, in the box.
+/// The center of a sphere, in the box.
 pub fn center(shapes: &Shapes, centers: &Centers, s: u32) -> Vec3
     requires sphere { s < sphere_count shapes.now }
-    requires centres { AreInside shapes.now centers.now }
-    ensures value { result ≡ centre_at centers.now s }
+    requires centers { AreInside shapes.now centers.now }
+    ensures value { result ≡ center_at centers.now s }
     ensures size { Within (widened result) (2 ^ 36) }
     ensures place { EachBetween (pos 0) (pos MAX_POINT) result }
 {

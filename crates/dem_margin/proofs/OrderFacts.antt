@@ -147,9 +147,9 @@ unfolding all_pairs
 all_pairs-ascend s = (below-rows s (sphere_count s)).ascends
 
 -- so do the near pairs
-pub near_of-ascend : (s : SceneValue) (drift : ℕ) (centres : List Vec3) → IsAscending (near_of s drift centres)
+pub near_of-ascend : (s : SceneValue) (drift : ℕ) (centers : List Vec3) → IsAscending (near_of s drift centers)
 unfolding near_of
-near_of-ascend s drift centres = IsStrictlySortedBy-filter pair_cmp (near s drift centres) (all_pairs s) (all_pairs-ascend s)
+near_of-ascend s drift centers = IsStrictlySortedBy-filter pair_cmp (near s drift centers) (all_pairs s) (all_pairs-ascend s)
 
 -- what was added to a raw list, once settled
 pub settled_is : (raw qs ps : List Pair) → IsAscending qs → HasSamePairs raw qs → raw ≡ ps → IsAscending ps → qs ≡ ps

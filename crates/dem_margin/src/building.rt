@@ -1,7 +1,7 @@
 //! The list of all near pairs of a snapshot, every pair tested.
 
 ghost use Rattle.std.specs.Prelude.{◌≡◌, ◌+◌, ◌^◌, ◌<◌, ◌≤◌, ◌++◌, [], length, filter, OnOk, OnErr, IfOk, IfErr};
-ghost use Rattle.dem_model.specs.Centres.{centres_of};
+ghost use Rattle.dem_model.specs.Centers.{centers_of};
 ghost use Rattle.dem_model.specs.Motion.{AreInside, AreSound};
 ghost use Rattle.dem_model.specs.Near.{near, near_of};
 ghost use Rattle.dem_model.specs.Pairs.{sphere_count, limit_of, pairs_below};
@@ -51,7 +51,7 @@ fn add_all(
     requires sound { AreSound shapes.now snap.now.bodies }
     requires drift { drift ≤ 1024 }
     requires empty { raw.old.pairs ≡ [] }
-    ensures found { OnOk result (raw.new.pairs ≡ near_of shapes.now drift (centres_of shapes.now snap.now.bodies)) }
+    ensures found { OnOk result (raw.new.pairs ≡ near_of shapes.now drift (centers_of shapes.now snap.now.bodies)) }
     ensures from { raw.new.from ≡ raw.old.from }
 {
     let _scene = shapes.scene();
@@ -67,7 +67,7 @@ fn add_rows(
     centers: &Centers,
     drift: u32,
 ) -> Result<(), OutOfMemory>
-    requires centres { AreInside shapes.now centers.now }
+    requires centers { AreInside shapes.now centers.now }
     requires drift { drift ≤ 1024 }
     requires empty { raw.old.pairs ≡ [] }
     ensures found { OnOk result (raw.new.pairs ≡ near_of shapes.now drift centers.now) }
@@ -87,7 +87,7 @@ fn add_row(
     drift: u32,
     a: u32,
 ) -> Result<(), OutOfMemory>
-    requires centres { AreInside shapes.now centers.now }
+    requires centers { AreInside shapes.now centers.now }
     requires drift { drift ≤ 1024 }
     requires sphere { a < sphere_count shapes.now }
     requires before { raw.old.pairs ≡ filter (near shapes.now drift centers.now) (pairs_below shapes.now a) }
@@ -110,7 +110,7 @@ pub fn add_near(
     drift: u32,
     pair: Pair,
 ) -> Result<(), OutOfMemory>
-    requires centres { AreInside shapes.now centers.now }
+    requires centers { AreInside shapes.now centers.now }
     requires drift { drift ≤ 1024 }
     requires first { pair.a < sphere_count shapes.now }
     requires second { pair.b < limit_of shapes.now }

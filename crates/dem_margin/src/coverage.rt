@@ -6,7 +6,7 @@ ghost use Rattle.dem_model.specs.Near.{HasDrifted, Covers};
 
 use dem_shape::Shapes;
 
-/// Every pair that touches is near at centres from which no sphere has moved farther than it may in `drift` steps.
+/// Every pair that touches is near at centers from which no sphere has moved farther than it may in `drift` steps.
 pub fn covers(shapes: &Shapes)
     ensures { (drift : ℕ) (from now : List Vec3) → HasDrifted shapes.now drift from now → Covers shapes.now drift from now }
 {

@@ -35,7 +35,7 @@ fn moved(shapes: &Shapes, drift: u32, sphere: u32) -> u64
     drift as u64 * shapes.per_step(sphere)
 }
 
-/// Whether a pair is near: whether it may touch within `drift` steps after these centres. It counts one test.
+/// Whether a pair is near: whether it may touch within `drift` steps after these centers. It counts one test.
 pub fn near<L: Ledger>(
     shapes: &Shapes,
     centers: &Centers,
@@ -44,7 +44,7 @@ pub fn near<L: Ledger>(
     tests: &mut Steps<L>,
 ) -> bool
     requires pair { IsPair shapes.now pair }
-    requires centres { AreInside shapes.now centers.now }
+    requires centers { AreInside shapes.now centers.now }
     requires drift { drift ≤ 1024 }
     ensures value { result ≡ is_near shapes.now drift centers.now pair }
     ensures counted { tests.new ≡ tests.old + 1 }
@@ -57,7 +57,7 @@ pub fn near<L: Ledger>(
 #[tactic(auto, unfolding(dem_model::specs::Near::near))]
 pub fn tested(shapes: &Shapes, centers: &Centers, pair: Pair, drift: u32) -> bool
     requires pair { IsPair shapes.now pair }
-    requires centres { AreInside shapes.now centers.now }
+    requires centers { AreInside shapes.now centers.now }
     requires drift { drift ≤ 1024 }
     ensures { result ≡ is_near shapes.now drift centers.now pair }
 {

@@ -14,7 +14,7 @@ use Rattle.dem_num.specs.declared.vector.Wide3.{Wide3}
 use Rattle.dem_num.specs.Vectors.{Within, sum_of, opposed, no_vector, narrowed}
 use Rattle.dem_num.proofs.VectorSizes.{within_wider, sum_within, opposed_within}
 use Rattle.dem_model.specs.SceneValue.{SceneValue}
-use Rattle.dem_model.specs.Centres.{touch_of}
+use Rattle.dem_model.specs.Centers.{touch_of}
 use Rattle.dem_model.specs.Ranges.{IsSmall}
 use Rattle.dem_model.specs.Step.{Meeting, meeting, meetings, held_at, no_load, load_plus, first_clump, is_second, load_with, load_on, loads_of, push_of}
 use Rattle.dem_model.specs.declared.law.Load.{Load}
@@ -93,21 +93,21 @@ fold-within s c n w (m ∷ ms) small h =
     (load_with-within s c n w m (All-head (λ (x : Meeting). IsSmall x.push) m ms small) h))
 
 -- a meeting is of the pair that met
-meeting_count : (s : SceneValue) (bodies : List Body) (centres : List Vec3) (p : Pair) (h : Option Vec3) (c : ℕ) (rest : List Meeting) (ps : List Pair) →
+meeting_count : (s : SceneValue) (bodies : List Body) (centers : List Vec3) (p : Pair) (h : Option Vec3) (c : ℕ) (rest : List Meeting) (ps : List Pair) →
     pair_count s c (pairs_in rest) ≤ pair_count s c ps →
-    pair_count s c (pairs_in (cons_option (meeting s bodies centres p h) rest)) ≤ pair_count s c (p ∷ ps)
+    pair_count s c (pairs_in (cons_option (meeting s bodies centers p h) rest)) ≤ pair_count s c (p ∷ ps)
 unfolding meeting pair_count
-meeting_count s bodies centres p h c rest ps le =
-    elim (touch_of s centres p) as (λ o. pair_count s c (pairs_in (cons_option (option_map (λ (t : Touch). record { pair = p; push = push_of s bodies p t (unwrap_or h (narrowed no_vector)) }) o) rest)) ≤ one_if (involves s c p) + pair_count s c ps)
+meeting_count s bodies centers p h c rest ps le =
+    elim (touch_of s centers p) as (λ o. pair_count s c (pairs_in (cons_option (option_map (λ (t : Touch). record { pair = p; push = push_of s bodies p t (unwrap_or h (narrowed no_vector)) }) o) rest)) ≤ one_if (involves s c p) + pair_count s c ps)
     [ None ↦ omega (arith, le) | Some t ↦ omega (arith, le) ]
 
 -- a clump has no more meetings than pairs
-pub meetings_count : (s : SceneValue) (bodies : List Body) (centres : List Vec3) (held : List Held) (c : ℕ) (ps : List Pair) →
-    pair_count s c (pairs_in (meetings s bodies centres held ps)) ≤ pair_count s c ps
+pub meetings_count : (s : SceneValue) (bodies : List Body) (centers : List Vec3) (held : List Held) (c : ℕ) (ps : List Pair) →
+    pair_count s c (pairs_in (meetings s bodies centers held ps)) ≤ pair_count s c ps
 unfolding meetings
-meetings_count s bodies centres held c [] = unfold pair_count in omega arith
-meetings_count s bodies centres held c (p ∷ ps) =
-    meeting_count s bodies centres p (held_at held p) c (filter_map (λ q. meeting s bodies centres q (held_at held q)) ps) ps (meetings_count s bodies centres held c ps)
+meetings_count s bodies centers held c [] = unfold pair_count in omega arith
+meetings_count s bodies centers held c (p ∷ ps) =
+    meeting_count s bodies centers p (held_at held p) c (filter_map (λ q. meeting s bodies centers q (held_at held q)) ps) ps (meetings_count s bodies centers held c ps)
 
 -- the load of each clump is within the bounds of the advance
 pub load_on-within : (s : SceneValue) (c : ℕ) (ms : List Meeting) → All (λ (m : Meeting). IsSmall m.push) ms → pair_count s c (pairs_in ms) ≤ most_pairs →

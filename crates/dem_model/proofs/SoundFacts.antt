@@ -9,7 +9,7 @@ use Rattle.dem_model.specs.SceneValue.{SceneValue}
 use Rattle.dem_model.specs.Spheres.{sphere_of, balls_of, spheres_of_clump, spheres_from, spheres_of}
 use Rattle.dem_model.specs.Sound.{IsSound, IsBall, IsTemplate, IsClump}
 use Rattle.dem_model.specs.Pairs.{sphere_at, sphere_count, no_sphere}
-use Rattle.dem_model.specs.Centres.{body_at, centre_at, placed, centres_of}
+use Rattle.dem_model.specs.Centers.{body_at, center_at, placed, centers_of}
 use Rattle.dem_model.specs.Step.{clump_at, no_clump}
 use Rattle.dem_model.specs.Motion.{IsSphere, AreSound, AreInside}
 use Rattle.dem_model.specs.declared.shape.Ball.{Ball}
@@ -69,7 +69,7 @@ spheres_of_clump-sound s k sound there =
       clump = there;
       ball = balls_of-sound s (clump_at s k).t sound c.t j d lt;
       narrower = λ radius all. balls_of-narrower s (clump_at s k).t radius sound c.t all j d lt;
-      centre = λ b h. h.centres j d lt;
+      center = λ b h. h.centers j d lt;
     })
 
 -- the same for the clumps from number k on
@@ -95,13 +95,13 @@ pub sphere_at-sound : (s : SceneValue) (i : ℕ) → IsSound s → i < sphere_co
 unfolding sphere_at sphere_count
 sphere_at-sound s i sound there = spheres_of-sound s sound i no_sphere there
 
--- where the bodies are sound, each centre is in the box
-pub centres_of-inside : (s : SceneValue) (bodies : List Body) → IsSound s → AreSound s bodies → AreInside s (centres_of s bodies)
-unfolding centres_of centre_at placed sphere_count sphere_at
-centres_of-inside s bodies sound bodies_sound = record {
+-- where the bodies are sound, each center is in the box
+pub centers_of-inside : (s : SceneValue) (bodies : List Body) → IsSound s → AreSound s bodies → AreInside s (centers_of s bodies)
+unfolding centers_of center_at placed sphere_count sphere_at
+centers_of-inside s bodies sound bodies_sound = record {
   count = length-map (spheres_of s) (placed bodies);
   each = λ i lt.
       let x = spheres_of-sound s sound i no_sphere lt in
       let e : get_or (map (placed bodies) (spheres_of s)) i (narrowed no_vector) ≡ placed bodies (get_or (spheres_of s) i no_sphere) = get_or-map (placed bodies) (spheres_of s) i no_sphere (narrowed no_vector) lt in
-      rw e (x.centre (body_at bodies (get_or (spheres_of s) i no_sphere).clump) (bodies_sound.each (get_or (spheres_of s) i no_sphere).clump x.clump));
+      rw e (x.center (body_at bodies (get_or (spheres_of s) i no_sphere).clump) (bodies_sound.each (get_or (spheres_of s) i no_sphere).clump x.clump));
 }

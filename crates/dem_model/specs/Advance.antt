@@ -9,7 +9,7 @@ use Rattle.dem_num.specs.Vectors.{widened, narrowed, sum_of, difference_of, quot
 use Rattle.dem_num.specs.Rotations.{matrix_of, turned_of, turned_back_by, turn_step_of, arm_of, swing_limit_of}
 use Rattle.dem_model.specs.SceneValue.{SceneValue}
 use Rattle.dem_model.specs.Position.{in_box}
-use Rattle.dem_model.specs.Spheres.{balls_of, centre_of}
+use Rattle.dem_model.specs.Spheres.{balls_of, center_of}
 use Rattle.dem_model.specs.declared.law.Load.{Load}
 use Rattle.dem_model.specs.declared.shape.Ball.{Ball}
 use Rattle.dem_model.specs.declared.shape.Template.{Template}
@@ -57,9 +57,9 @@ body_with b v w = record { p = narrowed (position_after b.p v); q = turn_step_of
 unfoldable pub is_over : ℕ → Wide3 → Bool
 is_over limit a = nat_lt limit (unsigned_abs a.x) || nat_lt limit (unsigned_abs a.y) || nat_lt limit (unsigned_abs a.z)
 
--- whether a body or the centre of one of its spheres is outside the box
+-- whether a body or the center of one of its spheres is outside the box
 unfoldable pub leaves_box : SceneValue → List Ball → Body → Bool
-leaves_box s balls b = not (in_box s (widened b.p)) || list_any (λ (x : Ball). not (in_box s (centre_of b x))) balls
+leaves_box s balls b = not (in_box s (widened b.p)) || list_any (λ (x : Ball). not (in_box s (center_of b x))) balls
 
 -- whether a sphere's turned offset changes by more than its swing limit
 unfoldable pub swings : ℕ → List Ball → Body → Body → Bool

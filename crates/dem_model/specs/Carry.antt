@@ -5,7 +5,7 @@ use Rattle.std.specs.Option.{option_map}
 use Rattle.dem_num.specs.declared.vector.Vec3.{Vec3}
 use Rattle.dem_model.specs.SceneValue.{SceneValue}
 use Rattle.dem_model.specs.Pairs.{all_pairs}
-use Rattle.dem_model.specs.Centres.{centres_of, touch_of}
+use Rattle.dem_model.specs.Centers.{centers_of, touch_of}
 use Rattle.dem_model.specs.Step.{held_at}
 use Rattle.dem_model.specs.declared.state.Held.{Held}
 use Rattle.dem_model.specs.declared.state.Pair.{Pair}
@@ -27,4 +27,4 @@ carried ps es new = map (held_at (kept_of ps es)) new
 
 -- what is held of each pair that touches in a state is what the state holds of it
 abbrev pub Agrees : SceneValue → State → List Held → Type 0
-Agrees s st held = All (λ p. is_some (touch_of s (centres_of s st.bodies) p) ≡ true → held_at held p ≡ held_at st.held p) (all_pairs s)
+Agrees s st held = All (λ p. is_some (touch_of s (centers_of s st.bodies) p) ≡ true → held_at held p ≡ held_at st.held p) (all_pairs s)

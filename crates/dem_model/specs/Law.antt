@@ -15,7 +15,7 @@ use Rattle.dem_model.specs.Mixing.{radius_between, mass_between}
 unfoldable pub contact_radius_of : ℕ → ℕ → ℕ
 contact_radius_of radius delta = root_of (radius * delta)
 
--- from a sphere's centre to the contact: the radius less half the overlap
+-- from a sphere's center to the contact: the radius less half the overlap
 unfoldable pub depth_of : ℕ → ℕ → ℕ
 depth_of r delta = r - delta / 2
 
@@ -24,21 +24,21 @@ abbrev pub along : ℤ → Vec3 → Wide3
 along length n = shifted_each (scaled length (widened n)) 30
 
 -- from the first clump's position to the contact
-unfoldable pub lever_a_of : Side → Vec3 → ℕ → Wide3
-lever_a_of a n delta = difference_of (widened a.lever) (along (pos (depth_of a.r delta)) n)
+unfoldable pub branch_a_of : Side → Vec3 → ℕ → Wide3
+branch_a_of a n delta = difference_of (widened a.lever) (along (pos (depth_of a.r delta)) n)
 
 -- from the second clump's position to the contact
-unfoldable pub lever_b_of : Side → Vec3 → ℕ → Wide3
-lever_b_of b n delta = sum_of (widened b.lever) (along (pos (depth_of b.r delta)) n)
+unfoldable pub branch_b_of : Side → Vec3 → ℕ → Wide3
+branch_b_of b n delta = sum_of (widened b.lever) (along (pos (depth_of b.r delta)) n)
 
--- the velocity of a side at the contact: that of its clump and that of its spin on the lever
+-- the velocity of a side at the contact: that of its clump and that of its spin on the branch
 unfoldable pub surface_velocity_of : Side → Wide3 → Wide3
-surface_velocity_of side lever = sum_of (widened side.v) (shifted_each (cross_of (widened side.spin) lever) 14)
+surface_velocity_of side branch = sum_of (widened side.v) (shifted_each (cross_of (widened side.spin) branch) 14)
 
 -- the velocity of the first side against the second; a wall has none
 unfoldable pub relative_velocity_of : Side → Side → Vec3 → ℕ → Wide3
 relative_velocity_of a b n delta =
-    difference_of (surface_velocity_of a (lever_a_of a n delta)) (surface_velocity_of b (lever_b_of b n delta))
+    difference_of (surface_velocity_of a (branch_a_of a n delta)) (surface_velocity_of b (branch_b_of b n delta))
 
 -- the part of a vector along the normal, as a number
 unfoldable pub along_normal : Vec3 → Wide3 → ℤ
@@ -99,19 +99,19 @@ held_after kt bound trial h =
 unfoldable pub force_of : Vec3 → ℕ → Wide3 → Wide3
 force_of n normal_force friction = sum_of (along (pos normal_force) n) friction
 
--- the torque of friction about a sphere's centre, which both sides feel the same way
-unfoldable pub rolling_of : ℕ → Vec3 → Wide3 → Wide3
-rolling_of depth n friction = shifted_each (scaled (pos depth) (cross_of (widened n) friction)) 30
+-- the torque of friction about a sphere's center, which both sides feel the same way
+unfoldable pub friction_torque_of : ℕ → Vec3 → Wide3 → Wide3
+friction_torque_of depth n friction = shifted_each (scaled (pos depth) (cross_of (widened n) friction)) 30
 
 -- the torque on the first clump about its position
 unfoldable pub torque_a_of : Side → Vec3 → ℕ → Wide3 → Wide3 → Wide3
 torque_a_of a n delta force friction =
-    difference_of (cross_of (widened a.lever) force) (rolling_of (depth_of a.r delta) n friction)
+    difference_of (cross_of (widened a.lever) force) (friction_torque_of (depth_of a.r delta) n friction)
 
 -- the torque on the second clump about its position
 unfoldable pub torque_b_of : Side → Vec3 → ℕ → Wide3 → Wide3 → Wide3
 torque_b_of b n delta force friction =
-    difference_of (opposed (cross_of (widened b.lever) force)) (rolling_of (depth_of b.r delta) n friction)
+    difference_of (opposed (cross_of (widened b.lever) force)) (friction_torque_of (depth_of b.r delta) n friction)
 
 -- the force and the torques of a contact whose normal force, trial and displacement are known
 unfoldable pub push_with : Law → Side → Side → Vec3 → ℕ → ℕ → Vec3 → Wide3 → Push

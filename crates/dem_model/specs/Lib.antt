@@ -4,7 +4,7 @@ pub mod Spheres
 pub mod Sound
 pub mod Pairs
 pub mod Touch
-pub mod Centres
+pub mod Centers
 pub mod Mixing
 pub mod Law
 pub mod Advance

@@ -5,10 +5,10 @@ use Rattle.dem_num.specs.Vectors.{widened}
 use Rattle.dem_num.specs.Rotations.{arm_of, swing_limit_of}
 use Rattle.dem_model.specs.SceneValue.{SceneValue}
 use Rattle.dem_model.specs.Position.{in_box}
-use Rattle.dem_model.specs.Spheres.{Sphere, centre_of}
+use Rattle.dem_model.specs.Spheres.{Sphere, center_of}
 use Rattle.dem_model.specs.Sound.{IsBall, IsBodyOf}
 use Rattle.dem_model.specs.Pairs.{sphere_count, limit_of, apart}
-use Rattle.dem_model.specs.Centres.{body_at, centre_at}
+use Rattle.dem_model.specs.Centers.{body_at, center_at}
 use Rattle.dem_model.specs.Step.{clump_at}
 use Rattle.dem_model.specs.declared.limits.TheConstants.{VOXEL}
 use Rattle.dem_model.specs.declared.shape.Ball.{Ball}
@@ -25,12 +25,12 @@ pub record AreSound (s : SceneValue) (bodies : List Body) : Type 0 where
 unfoldable pub per_step_of : SceneValue → Ball → ℕ
 per_step_of s b = (s.speed + (VOXEL - 1)) / VOXEL + swing_limit_of s.spin (arm_of (widened b.at))
 
--- a sphere's clump is there, its ball is within its ranges and narrower than what all are narrower than, and its centre is in the box where its clump's body is sound
+-- a sphere's clump is there, its ball is within its ranges and narrower than what all are narrower than, and its center is in the box where its clump's body is sound
 pub record IsSphere (s : SceneValue) (x : Sphere) : Type 0 where
   pub clump : x.clump < length s.clumps
   pub ball : IsBall (length s.materials) x.ball
   pub narrower : (radius : ℕ) → All (λ (t : Template). All (λ (y : Ball). y.r < radius) t.balls) s.templates → x.ball.r < radius
-  pub centre : (b : Body) → IsBodyOf s (clump_at s x.clump) b → IsTrue (in_box s (centre_of b x.ball))
+  pub center : (b : Body) → IsBodyOf s (clump_at s x.clump) b → IsTrue (in_box s (center_of b x.ball))
 
 -- a pair of all pairs: its first is a sphere, its second a later sphere of another clump or a wall
 pub record IsPair (s : SceneValue) (p : Pair) : Type 0 where
@@ -38,7 +38,7 @@ pub record IsPair (s : SceneValue) (p : Pair) : Type 0 where
   pub second : p.b < limit_of s
   pub is_apart : apart s p ≡ true
 
--- there is a centre for each sphere, and it is in the box
-pub record AreInside (s : SceneValue) (centres : List Vec3) : Type 0 where
-  pub count : length centres ≡ sphere_count s
-  pub each : (i : ℕ) → i < sphere_count s → IsTrue (in_box s (widened (centre_at centres i)))
+-- there is a center for each sphere, and it is in the box
+pub record AreInside (s : SceneValue) (centers : List Vec3) : Type 0 where
+  pub count : length centers ≡ sphere_count s
+  pub each : (i : ℕ) → i < sphere_count s → IsTrue (in_box s (widened (center_at centers i)))

@@ -6,7 +6,7 @@ use Rattle.dem_num.specs.Vectors.{widened, difference_of, Within}
 use Rattle.dem_model.specs.SceneValue.{SceneValue}
 use Rattle.dem_model.specs.Pairs.{sphere_count, sphere_at, wall_at, all_pairs}
 use Rattle.dem_model.specs.Touch.{gap_of, first_across, second_across}
-use Rattle.dem_model.specs.Centres.{centre_at, touch_of}
+use Rattle.dem_model.specs.Centers.{center_at, touch_of}
 use Rattle.dem_model.specs.Motion.{per_step_of}
 use Rattle.dem_model.specs.declared.shape.Axis.{Axis}
 use Rattle.dem_model.specs.declared.shape.Form.{Form}
@@ -22,7 +22,7 @@ drift_of s drift i = drift * per_step_of s (sphere_at s i).ball
 unfoldable pub reach_of : SceneValue → ℕ → ℕ → ℕ
 reach_of s drift i = (sphere_at s i).ball.r + drift_of s drift i
 
--- two spheres are near where on each axis their centres are no farther apart than both may reach
+-- two spheres are near where on each axis their centers are no farther apart than both may reach
 unfoldable pub spheres_near : Wide3 → ℕ → Bool
 spheres_near d reach = not (nat_lt reach (unsigned_abs d.x)) && not (nat_lt reach (unsigned_abs d.y)) && not (nat_lt reach (unsigned_abs d.z))
 
@@ -30,7 +30,7 @@ spheres_near d reach = not (nat_lt reach (unsigned_abs d.x)) && not (nat_lt reac
 unfoldable pub plane_near : Vec3 → Vec3 → Vec3 → ℕ → ℕ → Bool
 plane_near at dir c r extra = int_lt (gap_of at dir c) (pos (r + 3 * extra))
 
--- a sphere inside a cylinder is near it where its centre, moved outward on both axes, is farther from the axis than the radii allow
+-- a sphere inside a cylinder is near it where its center, moved outward on both axes, is farther from the axis than the radii allow
 unfoldable pub cylinder_near : Axis → Vec3 → ℕ → Vec3 → ℕ → ℕ → Bool
 cylinder_near axis at radius c r extra =
     let d = difference_of (widened c) (widened at) in
@@ -47,21 +47,21 @@ form_near (Cylinder axis at radius) c r extra = cylinder_near axis at radius c r
 unfoldable pub wall_near_of : Wall → Vec3 → ℕ → ℕ → Bool
 wall_near_of w c r extra = form_near w.form c r extra
 
--- whether a pair is near, where the centres are these and lists are used for so many steps
+-- whether a pair is near, where the centers are these and lists are used for so many steps
 unfoldable pub near : SceneValue → ℕ → List Vec3 → Pair → Bool
-near s drift centres p =
+near s drift centers p =
     if nat_lt p.b (sphere_count s)
-    then spheres_near (difference_of (widened (centre_at centres p.a)) (widened (centre_at centres p.b))) (reach_of s drift p.a + reach_of s drift p.b)
-    else wall_near_of (wall_at s p.b) (centre_at centres p.a) (sphere_at s p.a).ball.r (drift_of s drift p.a)
+    then spheres_near (difference_of (widened (center_at centers p.a)) (widened (center_at centers p.b))) (reach_of s drift p.a + reach_of s drift p.b)
+    else wall_near_of (wall_at s p.b) (center_at centers p.a) (sphere_at s p.a).ball.r (drift_of s drift p.a)
 
 -- the near pairs among all, in ascending order
 unfoldable pub near_of : SceneValue → ℕ → List Vec3 → List Pair
-near_of s drift centres = filter (near s drift centres) (all_pairs s)
+near_of s drift centers = filter (near s drift centers) (all_pairs s)
 
--- each sphere's centre has moved no farther than it may in so many steps
+-- each sphere's center has moved no farther than it may in so many steps
 pub record HasDrifted (s : SceneValue) (drift : ℕ) (from now : List Vec3) : Type 0 where
-  pub each : (i : ℕ) → i < sphere_count s → Within (difference_of (widened (centre_at now i)) (widened (centre_at from i))) (drift_of s drift i)
+  pub each : (i : ℕ) → i < sphere_count s → Within (difference_of (widened (center_at now i)) (widened (center_at from i))) (drift_of s drift i)
 
--- every pair that touches at the later centres is near at the earlier ones
+-- every pair that touches at the later centers is near at the earlier ones
 abbrev pub Covers : SceneValue → ℕ → List Vec3 → List Vec3 → Type 0
 Covers s drift from now = All (λ p. is_some (touch_of s now p) ≡ true → near s drift from p ≡ true) (all_pairs s)

@@ -17,7 +17,7 @@ use Rattle.dem_model.specs.declared.state.Clump.{Clump}
 use Rattle.dem_model.specs.declared.limits.TheConstants.{MAX_TEXT, MAX_VOXELS, MAX_STEPS, MAX_SPEED, MAX_SPIN, MAX_GRAVITY, MAX_MATERIALS, MAX_TEMPLATES, MAX_WALLS, MAX_CLUMPS}
 use Rattle.dem_model.specs.SceneValue.{SceneValue}
 use Rattle.dem_model.specs.Position.{in_box}
-use Rattle.dem_model.specs.Spheres.{balls_of, centre_of}
+use Rattle.dem_model.specs.Spheres.{balls_of, center_of}
 use Rattle.dem_model.specs.Reading.{◌>>=◌, spot, unless, required, from_to, at_most, whole_of, check_object, number_at, counted, list_at, list_or}
 use Rattle.dem_model.specs.ReadingVectors.{each_is, vector_at, vector_or}
 use Rattle.dem_model.specs.ReadingKinds.{material_of, template_of, greatest_radius, wall_of, clumps_from}
@@ -85,13 +85,13 @@ table_of d = do
 unfoldable pub in_limits : SceneValue → Body → Bool
 in_limits s b = each_is (at_most s.speed) b.v && each_is (at_most s.spin) b.w
 
--- whether the centre of each sphere lies in the box
-unfoldable pub centres_inside : SceneValue → Body → List Ball → Bool
-centres_inside s b balls = list_all (λ ball. in_box s (centre_of b ball)) balls
+-- whether the center of each sphere lies in the box
+unfoldable pub centers_inside : SceneValue → Body → List Ball → Bool
+centers_inside s b balls = list_all (λ ball. in_box s (center_of b ball)) balls
 
--- whether a body and the centre of each sphere lie in the box
+-- whether a body and the center of each sphere lie in the box
 unfoldable pub is_inside : SceneValue → Body → List Ball → Bool
-is_inside s b balls = in_box s (widened b.p) && centres_inside s b balls
+is_inside s b balls = in_box s (widened b.p) && centers_inside s b balls
 
 -- a clump that is within the limits, and then inside the box
 unfoldable pub check_clump : SceneValue → ℕ → Clump → Result ⊤ SceneFault

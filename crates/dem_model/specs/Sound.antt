@@ -5,7 +5,7 @@ use Rattle.dem_num.specs.Vectors.{widened, Within, is_zero}
 use Rattle.dem_num.specs.Rotations.{quat_norm2_of}
 use Rattle.dem_model.specs.SceneValue.{SceneValue}
 use Rattle.dem_model.specs.Position.{in_box}
-use Rattle.dem_model.specs.Spheres.{balls_of, spheres_of, centre_of}
+use Rattle.dem_model.specs.Spheres.{balls_of, spheres_of, center_of}
 use Rattle.dem_model.specs.declared.shape.Material.{Material}
 use Rattle.dem_model.specs.declared.shape.Ball.{Ball}
 use Rattle.dem_model.specs.declared.shape.Template.{Template}
@@ -70,10 +70,10 @@ pub record IsBody (s : SceneValue) (b : Body) : Type 0 where
   pub q : IsFrom MIN_NORM2 MAX_NORM2 (quat_norm2_of b.q)
   pub p : IsTrue (in_box s (widened b.p))
 
--- a body is sound for a clump: it is within the limits, and the centre of each sphere is in the box
+-- a body is sound for a clump: it is within the limits, and the center of each sphere is in the box
 pub record IsBodyOf (s : SceneValue) (c : Clump) (b : Body) : Type 0 where
   pub body : IsBody s b
-  pub centres : All (λ (x : Ball). IsTrue (in_box s (centre_of b x))) (balls_of s.templates c.t)
+  pub centers : All (λ (x : Ball). IsTrue (in_box s (center_of b x))) (balls_of s.templates c.t)
 
 -- a clump's template is there, and its body is sound for it
 pub record IsClump (s : SceneValue) (c : Clump) : Type 0 where

@@ -36,6 +36,6 @@ spheres_from templates k (c ∷ cs) = spheres_of_clump templates k c.t ++ sphere
 unfoldable pub spheres_of : SceneValue → List Sphere
 spheres_of s = spheres_from s.templates 0 s.clumps
 
--- where the centre of a sphere is: the clump's position and the turned offset
-unfoldable pub centre_of : Body → Ball → Wide3
-centre_of body ball = sum_of (widened body.p) (turned_of body.q (widened ball.at))
+-- where the center of a sphere is: the clump's position and the turned offset
+unfoldable pub center_of : Body → Ball → Wide3
+center_of body ball = sum_of (widened body.p) (turned_of body.q (widened ball.at))

@@ -8,7 +8,7 @@ use Rattle.dem_num.specs.Vectors.{widened, narrowed, no_vector, sum_of, opposed}
 use Rattle.dem_num.specs.Rotations.{turned_of}
 use Rattle.dem_model.specs.SceneValue.{SceneValue}
 use Rattle.dem_model.specs.Pairs.{sphere_count, sphere_at, wall_at, all_pairs}
-use Rattle.dem_model.specs.Centres.{body_at, centres_of, touch_of}
+use Rattle.dem_model.specs.Centers.{body_at, centers_of, touch_of}
 use Rattle.dem_model.specs.Mixing.{mixed_of}
 use Rattle.dem_model.specs.Law.{contact_of}
 use Rattle.dem_model.specs.Ranges.{wall_side_of}
@@ -68,20 +68,20 @@ abbrev pub clump_of_sphere : SceneValue → ℕ → Clump
 clump_of_sphere s i = clump_at s (sphere_at s i).clump
 
 -- the side of a sphere by its number, where its clump has this body
-unfoldable pub side_from : SceneValue → Body → ℕ → Side
-side_from s b i = side_with (mass_of s.templates (clump_of_sphere s i).t) b (sphere_at s i).ball
+unfoldable pub side_of : SceneValue → Body → ℕ → Side
+side_of s b i = side_with (mass_of s.templates (clump_of_sphere s i).t) b (sphere_at s i).ball
 
 -- the side of a sphere by its number
-unfoldable pub side_of : SceneValue → List Body → ℕ → Side
-side_of s bodies i = side_from s (body_at bodies (sphere_at s i).clump) i
+unfoldable pub side_at : SceneValue → List Body → ℕ → Side
+side_at s bodies i = side_of s (body_at bodies (sphere_at s i).clump) i
 
 -- the second side of a pair
 unfoldable pub second_side_of : SceneValue → List Body → Pair → Side
-second_side_of s bodies p = if nat_lt p.b (sphere_count s) then side_of s bodies p.b else wall_side_of
+second_side_of s bodies p = if nat_lt p.b (sphere_count s) then side_at s bodies p.b else wall_side_of
 
 -- what a touching pair does, with the displacement stored for it
 unfoldable pub push_of : SceneValue → List Body → Pair → Touch → Vec3 → Push
-push_of s bodies p t h = contact_of (law_of s p) (side_of s bodies p.a) (second_side_of s bodies p) t h
+push_of s bodies p t h = contact_of (law_of s p) (side_at s bodies p.a) (second_side_of s bodies p) t h
 
 -- a pair that touches, and what it does
 pub record Meeting : Type 0 where
@@ -98,12 +98,12 @@ held_at es p = option_map (λ (e : Held). e.h) (find (λ (e : Held). same_pair e
 
 -- the meeting of a pair, where it touches
 unfoldable pub meeting : SceneValue → List Body → List Vec3 → Pair → Option Vec3 → Option Meeting
-meeting s bodies centres p h =
-    option_map (λ (t : Touch). record { pair = p; push = push_of s bodies p t (unwrap_or h (narrowed no_vector)) }) (touch_of s centres p)
+meeting s bodies centers p h =
+    option_map (λ (t : Touch). record { pair = p; push = push_of s bodies p t (unwrap_or h (narrowed no_vector)) }) (touch_of s centers p)
 
 -- the meetings among these pairs, in their order
 unfoldable pub meetings : SceneValue → List Body → List Vec3 → List Held → List Pair → List Meeting
-meetings s bodies centres held ps = filter_map (λ p. meeting s bodies centres p (held_at held p)) ps
+meetings s bodies centers held ps = filter_map (λ p. meeting s bodies centers p (held_at held p)) ps
 
 -- no force and no torque
 abbrev pub no_load : Load
@@ -168,4 +168,4 @@ step_with s st ms = state_with (st.step + 1) ms (advanced_from s (st.step + 1) 0
 
 -- the plain step of a state, or its end: every pair is tested
 unfoldable pub step_of : SceneValue → State → Result State End
-step_of s st = step_with s st (meetings s st.bodies (centres_of s st.bodies) st.held (all_pairs s))
+step_of s st = step_with s st (meetings s st.bodies (centers_of s st.bodies) st.held (all_pairs s))

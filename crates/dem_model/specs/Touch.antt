@@ -13,12 +13,12 @@ use Rattle.dem_model.specs.declared.shape.Form.TheVariants.{Plane, Cylinder}
 use Rattle.dem_model.specs.declared.shape.Wall.{Wall}
 use Rattle.dem_model.specs.declared.limits.TheConstants.{UNIT, MAX_OVERLAP}
 
--- the direction of a difference of centres, times 2^30; along x where the centres are one
+-- the direction of a difference of centers, times 2^30; along x where the centers are one
 unfoldable pub normal_of : Wide3 → Vec3
 normal_of d = let l = root_of (norm2_of d) in
     if l == 0 then record { x = pos UNIT; y = pos 0; z = pos 0 } else narrowed (quotients (scaled (pos UNIT) d) (pos l))
 
--- two spheres touch where their centres, the first less the second, are closer than the radii together
+-- two spheres touch where their centers, the first less the second, are closer than the radii together
 unfoldable pub spheres_touch : Wide3 → ℕ → Option Touch
 spheres_touch d radii =
     if nat_lt (norm2_of d) (radii * radii)
@@ -33,7 +33,7 @@ unit_of dir = narrowed (quotients (scaled (pos (2 ^ 70)) (widened dir)) (pos (ro
 unfoldable pub gap_of : Vec3 → Vec3 → Vec3 → ℤ
 gap_of at dir c = shifted (dot_of (widened (unit_of dir)) (difference_of (widened c) (widened at))) 30
 
--- a sphere touches a plane where its centre is closer in front of it than its radius
+-- a sphere touches a plane where its center is closer in front of it than its radius
 unfoldable pub plane_touch : Vec3 → Vec3 → Vec3 → ℕ → Option Touch
 plane_touch at dir c r =
     let gap = gap_of at dir c in
@@ -67,7 +67,7 @@ distance2_of e f = unsigned_abs e * unsigned_abs e + unsigned_abs f * unsigned_a
 unfoldable pub inward : ℤ → ℕ → ℤ
 inward e distance = quotient (opposite (pos UNIT *ℤ e)) (pos distance)
 
--- a sphere inside a cylinder touches it where its centre is farther from the axis than the radii allow
+-- a sphere inside a cylinder touches it where its center is farther from the axis than the radii allow
 unfoldable pub cylinder_touch : Axis → Vec3 → ℕ → Vec3 → ℕ → Option Touch
 cylinder_touch axis at radius c r =
     let d = difference_of (widened c) (widened at) in

@@ -74,7 +74,7 @@ pub enum SceneFault {
     Version,
     /// A clump is faster or spins faster than the scene's limits.
     OverLimit { clump: u32 },
-    /// A clump's position or a centre of one of its spheres lies outside the box.
+    /// A clump's position or a center of one of its spheres lies outside the box.
     OutsideBox { clump: u32 },
     /// Memory was refused.
     OutOfMemory,

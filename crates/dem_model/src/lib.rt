@@ -1,7 +1,7 @@
 //! The plain types of the engine, and the definitions of all that it does.
 //!
 //! Types: scenes and their parts, bodies, states, ends, faults of a scene text, the contact law's sides, a list.
-//! Means: `specs` in the order in which a step runs it: position, pairs, centres, touch, law, step, ends, plain run,
+//! Means: `specs` in the order in which a step runs it: position, pairs, centers, touch, law, step, ends, plain run,
 //! frames, output; and the reading of a scene text. Callers rest on: a Scene keeps its ranges; a List is seen as a list.
 //! Takes memory: `List::push`. Not here: any computing (the crates above), numbers and rotations (dem_num).
 #![tactic(auto)]

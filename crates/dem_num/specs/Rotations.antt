@@ -41,26 +41,26 @@ unfoldable pub mixed_difference : ℤ → ℤ → ℤ → ℤ → ℤ
 mixed_difference u v s t = pos 2 *ℤ (u *ℤ v -ℤ s *ℤ t)
 
 -- an entry of the matrix: that of the quadratic form over the squared length, times 2^30
-unfoldable pub entry_of : ℤ → ℕ → ℤ
-entry_of form norm2 = quotient (form *ℤ pos (2 ^ 30)) (pos norm2)
+unfoldable pub matrix_entry_of : ℤ → ℕ → ℤ
+matrix_entry_of form norm2 = quotient (form *ℤ pos (2 ^ 30)) (pos norm2)
 
 -- the rotation matrix of a quaternion
 unfoldable pub matrix_of : Quat → Rows
 matrix_of q = let n = quat_norm2_of q in record {
   x = record {
-    x = entry_of (axial q.a q.b q.c q.d) n;
-    y = entry_of (mixed_difference q.b q.c q.a q.d) n;
-    z = entry_of (mixed_sum q.b q.d q.a q.c) n;
+    x = matrix_entry_of (axial q.a q.b q.c q.d) n;
+    y = matrix_entry_of (mixed_difference q.b q.c q.a q.d) n;
+    z = matrix_entry_of (mixed_sum q.b q.d q.a q.c) n;
   };
   y = record {
-    x = entry_of (mixed_sum q.b q.c q.a q.d) n;
-    y = entry_of (axial q.a q.c q.b q.d) n;
-    z = entry_of (mixed_difference q.c q.d q.a q.b) n;
+    x = matrix_entry_of (mixed_sum q.b q.c q.a q.d) n;
+    y = matrix_entry_of (axial q.a q.c q.b q.d) n;
+    z = matrix_entry_of (mixed_difference q.c q.d q.a q.b) n;
   };
   z = record {
-    x = entry_of (mixed_difference q.b q.d q.a q.c) n;
-    y = entry_of (mixed_sum q.c q.d q.a q.b) n;
-    z = entry_of (axial q.a q.d q.b q.c) n;
+    x = matrix_entry_of (mixed_difference q.b q.d q.a q.c) n;
+    y = matrix_entry_of (mixed_sum q.c q.d q.a q.b) n;
+    z = matrix_entry_of (axial q.a q.d q.b q.c) n;
   };
 }
 
@@ -126,7 +126,7 @@ unit_quat_of t = let r = pos (root_of (quat_norm2_of t)) in record {
 unfoldable pub turn_step_of : Quat → Wide3 → Quat
 turn_step_of q w = if is_zero w then q else unit_quat_of (stepped_of q w)
 
--- how far a sphere's centre may be from its clump's position
+-- how far a sphere's center may be from its clump's position
 unfoldable pub arm_of : Wide3 → ℕ
 arm_of o = if is_zero o then 0 else root_of (norm2_of o) + 1
 

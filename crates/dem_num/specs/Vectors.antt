@@ -57,8 +57,8 @@ unfoldable pub dot_of : Wide3 → Wide3 → ℤ
 dot_of a b = a.x *ℤ b.x +ℤ a.y *ℤ b.y +ℤ a.z *ℤ b.z
 
 -- the sum of the sizes of the products: what the sum of the products can reach
-unfoldable pub reach_of : Wide3 → Wide3 → ℕ
-reach_of a b = unsigned_abs a.x * unsigned_abs b.x + unsigned_abs a.y * unsigned_abs b.y + unsigned_abs a.z * unsigned_abs b.z
+unfoldable pub dot_bound_of : Wide3 → Wide3 → ℕ
+dot_bound_of a b = unsigned_abs a.x * unsigned_abs b.x + unsigned_abs a.y * unsigned_abs b.y + unsigned_abs a.z * unsigned_abs b.z
 
 -- one component of a cross product: the difference of two products
 unfoldable pub turn_product : ℤ → ℤ → ℤ → ℤ → ℤ

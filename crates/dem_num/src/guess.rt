@@ -41,11 +41,11 @@ pub(crate) fn long_guess(x: u128) -> u64 {
     let top = (scaled >> 64) as u64;
     let reciprocal = reciprocal(top);
     let rough = high(top, reciprocal) << 1;
-    let near = closer(scaled, rough, reciprocal, 36);
+    let better = closer(scaled, rough, reciprocal, 36);
     if even < FEW_BITS {
-        closer(scaled, near, reciprocal, 8) >> (even / 2)
+        closer(scaled, better, reciprocal, 8) >> (even / 2)
     } else {
-        near >> (even / 2)
+        better >> (even / 2)
     }
 }
 

@@ -7,7 +7,7 @@ ghost use Rattle.dem_num.specs.Vectors.{
   widened,
   Within,
   dot_of,
-  reach_of,
+  dot_bound_of,
   turn_product,
   cross_of,
   norm2_of,
@@ -17,12 +17,12 @@ use crate::operators::{add, mul, sub};
 use crate::vector::{Quat, Vec3, Wide3};
 
 /// The sum of the products, axis by axis.
-#[tactic(auto, unfolding(crate::specs::Vectors::dot_of, crate::specs::Vectors::reach_of))]
+#[tactic(auto, unfolding(crate::specs::Vectors::dot_of, crate::specs::Vectors::dot_bound_of))]
 pub fn dot(a: Vec3, b: Wide3) -> i128
     requires first { Within (widened a) (2 ^ 32) }
     requires second { Within b (2 ^ 92) }
     ensures value { result ≡ dot_of (widened a) b }
-    ensures size { AtMost result (reach_of (widened a) b) }
+    ensures size { AtMost result (dot_bound_of (widened a) b) }
 {
     let x = product(a.x, b.x);
     let y = product(a.y, b.y);

@@ -13,7 +13,7 @@ use Rattle.dem_model.specs.Sound.{IsSound}
 use Rattle.dem_model.specs.Motion.{IsPair}
 use Rattle.dem_model.specs.Pairs.{sphere_count, limit_of, pair_of, apart, row_below, pairs_below, all_pairs}
 use Rattle.dem_model.specs.Ranges.{IsSmall}
-use Rattle.dem_model.specs.Centres.{touch_of}
+use Rattle.dem_model.specs.Centers.{touch_of}
 use Rattle.dem_model.specs.declared.law.Touch.{Touch}
 use Rattle.dem_num.specs.Vectors.{narrowed, no_vector}
 use Rattle.dem_model.specs.Step.{Meeting, meeting, meetings, push_of, held_at, held_in, no_load, load_on, loads_of}
@@ -31,26 +31,26 @@ use Rattle.dem_plain.specs.Run.{meeting_with, AreStored}
 use Rattle.dem_plain.specs.Holds.{Holds, one_apart}
 
 -- the meetings of some pairs and one more
-pub meetings-push : (s : SceneValue) (bodies : List Body) (centres : List Vec3) (held : List Held) (ps : List Pair) (p : Pair) →
-    meetings s bodies centres held (ps ++ p ∷ []) ≡ meetings s bodies centres held ps ++ cons_option (meeting s bodies centres p (held_at held p)) []
+pub meetings-push : (s : SceneValue) (bodies : List Body) (centers : List Vec3) (held : List Held) (ps : List Pair) (p : Pair) →
+    meetings s bodies centers held (ps ++ p ∷ []) ≡ meetings s bodies centers held ps ++ cons_option (meeting s bodies centers p (held_at held p)) []
 unfolding meetings
-meetings-push s bodies centres held ps p = filter_map-append (λ q. meeting s bodies centres q (held_at held q)) ps (p ∷ [])
+meetings-push s bodies centers held ps p = filter_map-append (λ q. meeting s bodies centers q (held_at held q)) ps (p ∷ [])
 
 -- a pair that isn't apart changes nothing
-pub Holds-skipped : (s : SceneValue) (bodies : List Body) (centres : List Vec3) (held : List Held) (p : Pair) (met : Met) → apart s p ≡ false →
-    (ps : List Pair) → Holds s bodies centres held ps met → Holds s bodies centres held (ps ++ one_apart s p) met
-Holds-skipped s bodies centres held p met e ps h =
-    rw e (subst (λ qs. Holds s bodies centres held qs met) (sym (append-nil ps)) h)
+pub Holds-skipped : (s : SceneValue) (bodies : List Body) (centers : List Vec3) (held : List Held) (p : Pair) (met : Met) → apart s p ≡ false →
+    (ps : List Pair) → Holds s bodies centers held ps met → Holds s bodies centers held (ps ++ one_apart s p) met
+Holds-skipped s bodies centers held p met e ps h =
+    rw e (subst (λ qs. Holds s bodies centers held qs met) (sym (append-nil ps)) h)
 
 -- a pair that is apart and doesn't touch changes nothing
-pub Holds-missed : (s : SceneValue) (bodies : List Body) (centres : List Vec3) (held : List Held) (p : Pair) (met : Met) → apart s p ≡ true →
-    meeting s bodies centres p (held_at held p) ≡ None →
-    (ps : List Pair) → Holds s bodies centres held ps met → Holds s bodies centres held (ps ++ one_apart s p) met
-Holds-missed s bodies centres held p met e none ps h =
-    let same : meetings s bodies centres held ps ≡ meetings s bodies centres held (ps ++ p ∷ []) =
-    sym (append-nil (meetings s bodies centres held ps))
-    ∙ ap (λ o. meetings s bodies centres held ps ++ cons_option o []) (sym none)
-    ∙ sym (meetings-push s bodies centres held ps p) in
+pub Holds-missed : (s : SceneValue) (bodies : List Body) (centers : List Vec3) (held : List Held) (p : Pair) (met : Met) → apart s p ≡ true →
+    meeting s bodies centers p (held_at held p) ≡ None →
+    (ps : List Pair) → Holds s bodies centers held ps met → Holds s bodies centers held (ps ++ one_apart s p) met
+Holds-missed s bodies centers held p met e none ps h =
+    let same : meetings s bodies centers held ps ≡ meetings s bodies centers held (ps ++ p ∷ []) =
+    sym (append-nil (meetings s bodies centers held ps))
+    ∙ ap (λ o. meetings s bodies centers held ps ++ cons_option o []) (sym none)
+    ∙ sym (meetings-push s bodies centers held ps p) in
     rw e (record {
       sums = h.sums ∙ ap (loads_of s) same;
       kept = h.kept ∙ ap (map held_in) same;
@@ -58,18 +58,18 @@ Holds-missed s bodies centres held p met e none ps h =
     })
 
 -- a pair that touches adds its push and what is held of it
-pub Holds-more : (s : SceneValue) (bodies : List Body) (centres : List Vec3) (held : List Held) (p : Pair) (push : Push) (old new : Met) → apart s p ≡ true →
-    meeting s bodies centres p (held_at held p) ≡ Some (meeting_with p push) → IsSmall push →
+pub Holds-more : (s : SceneValue) (bodies : List Body) (centers : List Vec3) (held : List Held) (p : Pair) (push : Push) (old new : Met) → apart s p ≡ true →
+    meeting s bodies centers p (held_at held p) ≡ Some (meeting_with p push) → IsSmall push →
     new.loads.items ≡ loads_with s old.loads.items (meeting_with p push) →
     new.held ≡ old.held ++ held_in (meeting_with p push) ∷ [] →
-    (ps : List Pair) → Holds s bodies centres held ps old → Holds s bodies centres held (ps ++ one_apart s p) new
-Holds-more s bodies centres held p push old new e some small loads kept ps h =
-    let more : meetings s bodies centres held ps ++ meeting_with p push ∷ [] ≡ meetings s bodies centres held (ps ++ p ∷ []) =
-    ap (λ o. meetings s bodies centres held ps ++ cons_option o []) (sym some) ∙ sym (meetings-push s bodies centres held ps p) in
+    (ps : List Pair) → Holds s bodies centers held ps old → Holds s bodies centers held (ps ++ one_apart s p) new
+Holds-more s bodies centers held p push old new e some small loads kept ps h =
+    let more : meetings s bodies centers held ps ++ meeting_with p push ∷ [] ≡ meetings s bodies centers held (ps ++ p ∷ []) =
+    ap (λ o. meetings s bodies centers held ps ++ cons_option o []) (sym some) ∙ sym (meetings-push s bodies centers held ps p) in
     rw e (record {
-      sums = loads ∙ ap (λ ws. loads_with s ws (meeting_with p push)) h.sums ∙ sym (loads_of-push s (meetings s bodies centres held ps) (meeting_with p push)) ∙ ap (loads_of s) more;
-      kept = kept ∙ ap (λ es. es ++ held_in (meeting_with p push) ∷ []) h.kept ∙ sym (map_push held_in (meetings s bodies centres held ps) (meeting_with p push)) ∙ ap (map held_in) more;
-      small = subst (λ ms. All (λ (m : Meeting). IsSmall m.push) ms) more (All-push (λ (m : Meeting). IsSmall m.push) (meetings s bodies centres held ps) (meeting_with p push) h.small small);
+      sums = loads ∙ ap (λ ws. loads_with s ws (meeting_with p push)) h.sums ∙ sym (loads_of-push s (meetings s bodies centers held ps) (meeting_with p push)) ∙ ap (loads_of s) more;
+      kept = kept ∙ ap (λ es. es ++ held_in (meeting_with p push) ∷ []) h.kept ∙ sym (map_push held_in (meetings s bodies centers held ps) (meeting_with p push)) ∙ ap (map held_in) more;
+      small = subst (λ ms. All (λ (m : Meeting). IsSmall m.push) ms) more (All-push (λ (m : Meeting). IsSmall m.push) (meetings s bodies centers held ps) (meeting_with p push) h.small small);
     })
 
 -- a load of at most so many contacts is within the bounds
@@ -85,69 +85,69 @@ unfolding loads_of
 load_at s ms c lt = get_or-map-range_with_len (load_on s ms) 0 (length s.clumps) c c no_load lt (zero-add c)
 
 -- where no clump has too many of the pairs, the sums over their meetings are within the bounds
-pub sums-within : (s : SceneValue) (bodies : List Body) (centres : List Vec3) (held : List Held) (ps : List Pair) (ws : List Load) →
-    ((c : ℕ) → pair_count s c ps ≤ most_pairs) → ws ≡ loads_of s (meetings s bodies centres held ps) →
-    All (λ (m : Meeting). IsSmall m.push) (meetings s bodies centres held ps) → AreLoads s ws
-sums-within s bodies centres held ps ws few sums small =
+pub sums-within : (s : SceneValue) (bodies : List Body) (centers : List Vec3) (held : List Held) (ps : List Pair) (ws : List Load) →
+    ((c : ℕ) → pair_count s c ps ≤ most_pairs) → ws ≡ loads_of s (meetings s bodies centers held ps) →
+    All (λ (m : Meeting). IsSmall m.push) (meetings s bodies centers held ps) → AreLoads s ws
+sums-within s bodies centers held ps ws few sums small =
     record {
-      count = ap length sums ∙ length-loads_of s (meetings s bodies centres held ps);
+      count = ap length sums ∙ length-loads_of s (meetings s bodies centers held ps);
       each = λ c lt.
-          let here : get_or ws c no_load ≡ load_on s (meetings s bodies centres held ps) c =
-          ap (λ xs. get_or xs c no_load) sums ∙ load_at s (meetings s bodies centres held ps) c lt in
-          subst CanGrow (sym here) (can_grow (load_on s (meetings s bodies centres held ps) c)
-          (load_on-within s c (meetings s bodies centres held ps) small (omega (arith, meetings_count s bodies centres held c ps, few c))));
+          let here : get_or ws c no_load ≡ load_on s (meetings s bodies centers held ps) c =
+          ap (λ xs. get_or xs c no_load) sums ∙ load_at s (meetings s bodies centers held ps) c lt in
+          subst CanGrow (sym here) (can_grow (load_on s (meetings s bodies centers held ps) c)
+          (load_on-within s c (meetings s bodies centers held ps) small (omega (arith, meetings_count s bodies centers held c ps, few c))));
     }
 
-loads-within : (s : SceneValue) (bodies : List Body) (centres : List Vec3) (held : List Held) (ps : List Pair) (met : Met) →
-    ((c : ℕ) → pair_count s c ps ≤ most_pairs) → Holds s bodies centres held ps met → AreLoads s met.loads.items
-loads-within s bodies centres held ps met few h = sums-within s bodies centres held ps met.loads.items few h.sums h.small
+loads-within : (s : SceneValue) (bodies : List Body) (centers : List Vec3) (held : List Held) (ps : List Pair) (met : Met) →
+    ((c : ℕ) → pair_count s c ps ≤ most_pairs) → Holds s bodies centers held ps met → AreLoads s met.loads.items
+loads-within s bodies centers held ps met few h = sums-within s bodies centers held ps met.loads.items few h.sums h.small
 
 -- the loads before some place of all pairs are within the bounds
-pub loads-visited : (s : SceneValue) (bodies : List Body) (centres : List Vec3) (held : List Held) (a b : ℕ) (met : Met) → IsSound s → a < sphere_count s → b ≤ limit_of s →
-    Holds s bodies centres held (pairs_below s a ++ row_below s a b) met → AreLoads s met.loads.items
-loads-visited s bodies centres held a b met sound lt le h =
-    loads-within s bodies centres held (pairs_below s a ++ row_below s a b) met (λ c. pair_count-visited s c a b sound lt le) h
+pub loads-visited : (s : SceneValue) (bodies : List Body) (centers : List Vec3) (held : List Held) (a b : ℕ) (met : Met) → IsSound s → a < sphere_count s → b ≤ limit_of s →
+    Holds s bodies centers held (pairs_below s a ++ row_below s a b) met → AreLoads s met.loads.items
+loads-visited s bodies centers held a b met sound lt le h =
+    loads-within s bodies centers held (pairs_below s a ++ row_below s a b) met (λ c. pair_count-visited s c a b sound lt le) h
 
 -- the loads of all pairs are within the bounds
-pub loads-all : (s : SceneValue) (bodies : List Body) (centres : List Vec3) (held : List Held) (met : Met) → IsSound s →
-    Holds s bodies centres held (all_pairs s) met → AreLoads s met.loads.items
-loads-all s bodies centres held met sound h = loads-within s bodies centres held (all_pairs s) met (λ c. pair_count-all s c sound) h
+pub loads-all : (s : SceneValue) (bodies : List Body) (centers : List Vec3) (held : List Held) (met : Met) → IsSound s →
+    Holds s bodies centers held (all_pairs s) met → AreLoads s met.loads.items
+loads-all s bodies centers held met sound h = loads-within s bodies centers held (all_pairs s) met (λ c. pair_count-all s c sound) h
 
 -- a row begins empty
-pub Holds-row : (s : SceneValue) (bodies : List Body) (centres : List Vec3) (held : List Held) (a : ℕ) (met : Met) →
-    Holds s bodies centres held (pairs_below s a) met → Holds s bodies centres held (pairs_below s a ++ row_below s a (a + 1)) met
-Holds-row s bodies centres held a met h =
+pub Holds-row : (s : SceneValue) (bodies : List Body) (centers : List Vec3) (held : List Held) (a : ℕ) (met : Met) →
+    Holds s bodies centers held (pairs_below s a) met → Holds s bodies centers held (pairs_below s a ++ row_below s a (a + 1)) met
+Holds-row s bodies centers held a met h =
     let e : pairs_below s a ≡ pairs_below s a ++ row_below s a (a + 1) =
     sym (append-nil (pairs_below s a)) ∙ ap (λ xs. pairs_below s a ++ xs) (sym (row_below-start s a (a + 1) (omega arith))) in
-    subst (λ ps. Holds s bodies centres held ps met) e h
+    subst (λ ps. Holds s bodies centers held ps met) e h
 
 -- a row goes on
-pub Holds-place : (s : SceneValue) (bodies : List Body) (centres : List Vec3) (held : List Held) (a b : ℕ) (met : Met) →
-    Holds s bodies centres held ((pairs_below s a ++ row_below s a b) ++ one_apart s (pair_of a b)) met →
-    Holds s bodies centres held (pairs_below s a ++ row_below s a (b + 1)) met
-Holds-place s bodies centres held a b met h =
+pub Holds-place : (s : SceneValue) (bodies : List Body) (centers : List Vec3) (held : List Held) (a b : ℕ) (met : Met) →
+    Holds s bodies centers held ((pairs_below s a ++ row_below s a b) ++ one_apart s (pair_of a b)) met →
+    Holds s bodies centers held (pairs_below s a ++ row_below s a (b + 1)) met
+Holds-place s bodies centers held a b met h =
     let e : (pairs_below s a ++ row_below s a b) ++ one_apart s (pair_of a b) ≡ pairs_below s a ++ row_below s a (b + 1) =
     append_assoc (pairs_below s a) (row_below s a b) (one_apart s (pair_of a b)) ∙ ap (λ xs. pairs_below s a ++ xs) (sym (row_below-more s a b)) in
-    subst (λ ps. Holds s bodies centres held ps met) e h
+    subst (λ ps. Holds s bodies centers held ps met) e h
 
 -- a row ends
-pub Holds-rows : (s : SceneValue) (bodies : List Body) (centres : List Vec3) (held : List Held) (a b : ℕ) (met : Met) → b ≡ limit_of s →
-    Holds s bodies centres held (pairs_below s a ++ row_below s a b) met → Holds s bodies centres held (pairs_below s (a + 1)) met
-Holds-rows s bodies centres held a b met e h =
+pub Holds-rows : (s : SceneValue) (bodies : List Body) (centers : List Vec3) (held : List Held) (a b : ℕ) (met : Met) → b ≡ limit_of s →
+    Holds s bodies centers held (pairs_below s a ++ row_below s a b) met → Holds s bodies centers held (pairs_below s (a + 1)) met
+Holds-rows s bodies centers held a b met e h =
     let whole : pairs_below s a ++ row_below s a b ≡ pairs_below s (a + 1) = ap (λ n. pairs_below s a ++ row_below s a n) e ∙ sym (pairs_below-more s a) in
-    subst (λ ps. Holds s bodies centres held ps met) whole h
+    subst (λ ps. Holds s bodies centers held ps met) whole h
 
 -- all rows are all pairs
-pub Holds-whole : (s : SceneValue) (bodies : List Body) (centres : List Vec3) (held : List Held) (a : ℕ) (met : Met) → a ≡ sphere_count s →
-    Holds s bodies centres held (pairs_below s a) met → Holds s bodies centres held (all_pairs s) met
+pub Holds-whole : (s : SceneValue) (bodies : List Body) (centers : List Vec3) (held : List Held) (a : ℕ) (met : Met) → a ≡ sphere_count s →
+    Holds s bodies centers held (pairs_below s a) met → Holds s bodies centers held (all_pairs s) met
 unfolding all_pairs
-Holds-whole s bodies centres held a met e h = subst (λ n. Holds s bodies centres held (pairs_below s n) met) e h
+Holds-whole s bodies centers held a met e h = subst (λ n. Holds s bodies centers held (pairs_below s n) met) e h
 
 -- nothing has met
-pub Holds-none : (s : SceneValue) (bodies : List Body) (centres : List Vec3) (held : List Held) (met : Met) → met.loads.items ≡ loads_of s [] → met.held ≡ [] →
-    Holds s bodies centres held [] met
+pub Holds-none : (s : SceneValue) (bodies : List Body) (centers : List Vec3) (held : List Held) (met : Met) → met.loads.items ≡ loads_of s [] → met.held ≡ [] →
+    Holds s bodies centers held [] met
 unfolding meetings
-Holds-none s bodies centres held met loads kept = record { sums = loads; kept = kept; small = All-nil (λ (m : Meeting). IsSmall m.push) }
+Holds-none s bodies centers held met loads kept = record { sums = loads; kept = kept; small = All-nil (λ (m : Meeting). IsSmall m.push) }
 
 -- the loads of no meetings
 pub loads_none : (s : SceneValue) (n : ℕ) → replicate n no_load ≡ map (load_on s []) (range_with_len 0 n)
@@ -160,18 +160,18 @@ loads_none s (suc n) = ext_get_or no_load (replicate (suc n) no_load) (map (λ c
     get_or-replicate (suc n) i no_load no_load within ∙ sym (get_or-map-range_with_len (λ (c : ℕ). no_load) 0 (suc n) i i no_load within (zero-add i)))
 
 pub Holds-nothing : (s : SceneValue) (n : ℕ) (met : Met) → n ≡ length s.clumps → met.loads.items ≡ replicate n no_load → met.held ≡ [] →
-    (bodies : List Body) (centres : List Vec3) (held : List Held) → Holds s bodies centres held [] met
-Holds-nothing s n met e loads kept bodies centres held =
-    Holds-none s bodies centres held met (loads ∙ ap (λ k. replicate k no_load) e ∙ unfold loads_of in loads_none s (length s.clumps)) kept
+    (bodies : List Body) (centers : List Vec3) (held : List Held) → Holds s bodies centers held [] met
+Holds-nothing s n met e loads kept bodies centers held =
+    Holds-none s bodies centers held met (loads ∙ ap (λ k. replicate k no_load) e ∙ unfold loads_of in loads_none s (length s.clumps)) kept
 
 -- the meeting of a pair that touches
-pub meeting_some : (s : SceneValue) (bodies : List Body) (centres : List Vec3) (p : Pair) (h : Option Vec3) (t : Touch) (push : Push) →
-    touch_of s centres p ≡ Some t → push ≡ push_of s bodies p t (unwrap_or h (narrowed no_vector)) → Some (meeting_with p push) ≡ meeting s bodies centres p h
+pub meeting_some : (s : SceneValue) (bodies : List Body) (centers : List Vec3) (p : Pair) (h : Option Vec3) (t : Touch) (push : Push) →
+    touch_of s centers p ≡ Some t → push ≡ push_of s bodies p t (unwrap_or h (narrowed no_vector)) → Some (meeting_with p push) ≡ meeting s bodies centers p h
 unfolding meeting
-meeting_some s bodies centres p h t push e push_is = rw e (ap (λ x. Some (meeting_with p x)) push_is)
+meeting_some s bodies centers p h t push e push_is = rw e (ap (λ x. Some (meeting_with p x)) push_is)
 
 -- a pair that doesn't touch has no meeting
-pub meeting_none : (s : SceneValue) (bodies : List Body) (centres : List Vec3) (p : Pair) (h : Option Vec3) →
-    touch_of s centres p ≡ None → None ≡ meeting s bodies centres p h
+pub meeting_none : (s : SceneValue) (bodies : List Body) (centers : List Vec3) (p : Pair) (h : Option Vec3) →
+    touch_of s centers p ≡ None → None ≡ meeting s bodies centers p h
 unfolding meeting
-meeting_none s bodies centres p h e = rw e refl
+meeting_none s bodies centers p h e = rw e refl

@@ -11,7 +11,7 @@ use Rattle.dem_num.specs.declared.vector.Vec3.{Vec3}
 use Rattle.dem_num.specs.Vectors.{widened, narrowed, no_vector, Within}
 use Rattle.dem_model.specs.SceneValue.{SceneValue}
 use Rattle.dem_model.specs.Sound.{IsSound, IsBodyOf}
-use Rattle.dem_model.specs.Centres.{body_at, still_body, centres_of, placed}
+use Rattle.dem_model.specs.Centers.{body_at, still_body, centers_of, placed}
 use Rattle.dem_model.specs.Motion.{AreSound}
 use Rattle.dem_model.specs.Pairs.{all_pairs, sphere_count}
 use Rattle.dem_model.specs.Advance.{advance_of}
@@ -139,34 +139,34 @@ unfolding held_in
 stored_from ms small = All-map (λ (e : Held). Within (widened e.h) (2 ^ 40)) held_in ms (λ k d lt. (small k d lt).h)
 
 -- the plain step is the step of all meetings
-step_is : (s : SceneValue) (st : State) (met : Met) (r : Result (List Body) End) (centres : List Vec3) → centres ≡ centres_of s st.bodies →
-    Holds s st.bodies centres st.held (all_pairs s) met →
+step_is : (s : SceneValue) (st : State) (met : Met) (r : Result (List Body) End) (centers : List Vec3) → centers ≡ centers_of s st.bodies →
+    Holds s st.bodies centers st.held (all_pairs s) met →
     advanced_from s (st.step + 1) 0 s.clumps st.bodies met.loads.items ≡ r →
-    step_of s st ≡ state_with (st.step + 1) (meetings s st.bodies centres st.held (all_pairs s)) r
+    step_of s st ≡ state_with (st.step + 1) (meetings s st.bodies centers st.held (all_pairs s)) r
 unfolding step_of step_with
-step_is s st met r centres e h adv =
+step_is s st met r centers e h adv =
     ap (λ cs. state_with (st.step + 1) (meetings s st.bodies cs st.held (all_pairs s)) (advanced_from s (st.step + 1) 0 s.clumps st.bodies (loads_of s (meetings s st.bodies cs st.held (all_pairs s))))) (sym e)
-    ∙ ap (λ ws. state_with (st.step + 1) (meetings s st.bodies centres st.held (all_pairs s)) (advanced_from s (st.step + 1) 0 s.clumps st.bodies ws)) (sym h.sums)
-    ∙ ap (state_with (st.step + 1) (meetings s st.bodies centres st.held (all_pairs s))) adv
+    ∙ ap (λ ws. state_with (st.step + 1) (meetings s st.bodies centers st.held (all_pairs s)) (advanced_from s (st.step + 1) 0 s.clumps st.bodies ws)) (sym h.sums)
+    ∙ ap (state_with (st.step + 1) (meetings s st.bodies centers st.held (all_pairs s))) adv
 
 -- the step with all meetings
-pub step_made : (s : SceneValue) (st : State) (met : Met) (next : List Body) (centres : List Vec3) → centres ≡ centres_of s st.bodies →
-    Holds s st.bodies centres st.held (all_pairs s) met →
+pub step_made : (s : SceneValue) (st : State) (met : Met) (next : List Body) (centers : List Vec3) → centers ≡ centers_of s st.bodies →
+    Holds s st.bodies centers st.held (all_pairs s) met →
     advanced_from s (st.step + 1) 0 s.clumps st.bodies met.loads.items ≡ Ok next → AreSound s next →
     IsNext s st (record { step = st.step + 1; bodies = next; held = met.held })
-step_made s st met next centres e h ok sound = record {
-  step = step_is s st met (Ok next) centres e h ok
+step_made s st met next centers e h ok sound = record {
+  step = step_is s st met (Ok next) centers e h ok
       ∙ unfold state_with in ap (λ es. Ok (record { step = st.step + 1; bodies = next; held = es })) (sym h.kept);
   number = refl;
   bodies = sound;
-  held = subst AreStored (sym h.kept) (stored_from (meetings s st.bodies centres st.held (all_pairs s)) h.small);
+  held = subst AreStored (sym h.kept) (stored_from (meetings s st.bodies centers st.held (all_pairs s)) h.small);
 }
 
 -- the step ends where a clump passes a limit
-pub step_ends : (s : SceneValue) (st : State) (met : Met) (end : End) (centres : List Vec3) → centres ≡ centres_of s st.bodies →
-    Holds s st.bodies centres st.held (all_pairs s) met →
+pub step_ends : (s : SceneValue) (st : State) (met : Met) (end : End) (centers : List Vec3) → centers ≡ centers_of s st.bodies →
+    Holds s st.bodies centers st.held (all_pairs s) met →
     advanced_from s (st.step + 1) 0 s.clumps st.bodies met.loads.items ≡ Err end → step_of s st ≡ Err end
-step_ends s st met end centres e h err = step_is s st met (Err end) centres e h err ∙ unfold state_with in refl
+step_ends s st met end centers e h err = step_is s st met (Err end) centers e h err ∙ unfold state_with in refl
 
 -- the next state is that of the plain run
 pub plain_next : (s : SceneValue) (st next : State) → plain_at s st.step ≡ Some st → st.step < s.steps → IsNext s st next → plain_at s next.step ≡ Some next
@@ -223,26 +223,26 @@ held_none es i p le h =
 
 -- ---- what a run keeps
 
-pub length-centres_of : (s : SceneValue) (bodies : List Body) → length (centres_of s bodies) ≡ sphere_count s
-unfolding centres_of sphere_count
-length-centres_of s bodies = length-map (spheres_of s) (placed bodies)
+pub length-centers_of : (s : SceneValue) (bodies : List Body) → length (centers_of s bodies) ≡ sphere_count s
+unfolding centers_of sphere_count
+length-centers_of s bodies = length-map (spheres_of s) (placed bodies)
 
--- a run whose centres are filled is a run
-pub run_kept : (s : SceneValue) (old new : List Vec3) (st : State) (bodies : List Body) → IsRun s old st → new ≡ centres_of s bodies → IsRun s new st
+-- a run whose centers are filled is a run
+pub run_kept : (s : SceneValue) (old new : List Vec3) (st : State) (bodies : List Body) → IsRun s old st → new ≡ centers_of s bodies → IsRun s new st
 run_kept s old new st bodies run e = record {
   scene = run.scene;
-  room = ap length e ∙ length-centres_of s bodies;
+  room = ap length e ∙ length-centers_of s bodies;
   plain = run.plain;
   bodies = run.bodies;
   held = run.held;
 }
 
 -- a run goes on with the next state
-pub run_next : (s : SceneValue) (old new : List Vec3) (st next : State) (bodies : List Body) → IsRun s old st → new ≡ centres_of s bodies →
+pub run_next : (s : SceneValue) (old new : List Vec3) (st next : State) (bodies : List Body) → IsRun s old st → new ≡ centers_of s bodies →
     st.step < s.steps → IsNext s st next → IsRun s new next
 run_next s old new st next bodies run e lt h = record {
   scene = run.scene;
-  room = ap length e ∙ length-centres_of s bodies;
+  room = ap length e ∙ length-centers_of s bodies;
   plain = plain_next s st next run.plain lt h;
   bodies = h.bodies;
   held = h.held;
@@ -257,10 +257,10 @@ first_is s bodies held e none =
     ∙ ap (λ (h : List Held). let st : State = record { step = 0; bodies = map (λ (c : Clump). c.body) s.clumps; held = h } in st) none
 
 -- a run begins with its first state
-pub run_first : (s shapes : SceneValue) (centres : List Vec3) (bodies : List Body) (held : List Held) → shapes ≡ s → IsSound shapes →
-    length centres ≡ sphere_count shapes → bodies ≡ (first_state s).bodies → held ≡ [] →
-    IsRun shapes centres (record { step = 0; bodies = bodies; held = held })
-run_first s shapes centres bodies held same sound room e none =
+pub run_first : (s shapes : SceneValue) (centers : List Vec3) (bodies : List Body) (held : List Held) → shapes ≡ s → IsSound shapes →
+    length centers ≡ sphere_count shapes → bodies ≡ (first_state s).bodies → held ≡ [] →
+    IsRun shapes centers (record { step = 0; bodies = bodies; held = held })
+run_first s shapes centers bodies held same sound room e none =
     let here : bodies ≡ (first_state shapes).bodies = e ∙ ap (λ x. (first_state x).bodies) (sym same) in
     record {
       scene = sound;
@@ -271,28 +271,28 @@ run_first s shapes centres bodies held same sound room e none =
     }
 
 -- the meetings, over the state that their lists are of
-holds_of : (s : SceneValue) (st : State) (met : Met) (bodies : List Body) (held : List Held) (centres : List Vec3) → bodies ≡ st.bodies → held ≡ st.held →
-    Holds s bodies centres held (all_pairs s) met → Holds s st.bodies centres st.held (all_pairs s) met
-holds_of s st met bodies held centres b e h =
-    subst (λ xs. Holds s xs centres st.held (all_pairs s) met) b (subst (λ es. Holds s bodies centres es (all_pairs s) met) e h)
+holds_of : (s : SceneValue) (st : State) (met : Met) (bodies : List Body) (held : List Held) (centers : List Vec3) → bodies ≡ st.bodies → held ≡ st.held →
+    Holds s bodies centers held (all_pairs s) met → Holds s st.bodies centers st.held (all_pairs s) met
+holds_of s st met bodies held centers b e h =
+    subst (λ xs. Holds s xs centers st.held (all_pairs s) met) b (subst (λ es. Holds s bodies centers es (all_pairs s) met) e h)
 
 -- the next state is made of the meetings and the bodies
-pub next_made : (s : SceneValue) (st : State) (met : Met) (bodies next : List Body) (held : List Held) (loads : List Load) (centres : List Vec3) →
-    bodies ≡ st.bodies → held ≡ st.held → loads ≡ met.loads.items → centres ≡ centres_of s st.bodies →
-    Holds s bodies centres held (all_pairs s) met → Advances s (st.step + 1) bodies loads (Ok next) →
+pub next_made : (s : SceneValue) (st : State) (met : Met) (bodies next : List Body) (held : List Held) (loads : List Load) (centers : List Vec3) →
+    bodies ≡ st.bodies → held ≡ st.held → loads ≡ met.loads.items → centers ≡ centers_of s st.bodies →
+    Holds s bodies centers held (all_pairs s) met → Advances s (st.step + 1) bodies loads (Ok next) →
     IsNext s st (record { step = st.step + 1; bodies = next; held = met.held })
-next_made s st met bodies next held loads centres b e l filled h a =
-    step_made s st met next centres filled (holds_of s st met bodies held centres b e h)
+next_made s st met bodies next held loads centers b e l filled h a =
+    step_made s st met next centers filled (holds_of s st met bodies held centers b e h)
     (subst (λ xs. advanced_from s (st.step + 1) 0 s.clumps xs met.loads.items ≡ Ok next) b
     (subst (λ ws. advanced_from s (st.step + 1) 0 s.clumps bodies ws ≡ Ok next) l a.0))
     a.1
 
 -- the step stops where the bodies stop
-pub next_stops : (s : SceneValue) (st : State) (met : Met) (stop : Stop) (bodies : List Body) (held : List Held) (loads : List Load) (centres : List Vec3) →
-    bodies ≡ st.bodies → held ≡ st.held → loads ≡ met.loads.items → centres ≡ centres_of s st.bodies →
-    Holds s bodies centres held (all_pairs s) met → Advances s (st.step + 1) bodies loads (Err stop) → IsAfter s st (Err stop)
-next_stops s st met (Ended end) bodies held loads centres b e l filled h a =
-    step_ends s st met end centres filled (holds_of s st met bodies held centres b e h)
+pub next_stops : (s : SceneValue) (st : State) (met : Met) (stop : Stop) (bodies : List Body) (held : List Held) (loads : List Load) (centers : List Vec3) →
+    bodies ≡ st.bodies → held ≡ st.held → loads ≡ met.loads.items → centers ≡ centers_of s st.bodies →
+    Holds s bodies centers held (all_pairs s) met → Advances s (st.step + 1) bodies loads (Err stop) → IsAfter s st (Err stop)
+next_stops s st met (Ended end) bodies held loads centers b e l filled h a =
+    step_ends s st met end centers filled (holds_of s st met bodies held centers b e h)
     (subst (λ xs. advanced_from s (st.step + 1) 0 s.clumps xs met.loads.items ≡ Err end) b
     (subst (λ ws. advanced_from s (st.step + 1) 0 s.clumps bodies ws ≡ Err end) l a))
-next_stops s st met OutOfMemory bodies held loads centres b e l filled h a = tt
+next_stops s st met OutOfMemory bodies held loads centers b e l filled h a = tt

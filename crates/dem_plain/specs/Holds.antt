@@ -15,7 +15,7 @@ abbrev pub one_apart : SceneValue → Pair → List Pair
 one_apart s p = if apart s p then p ∷ [] else []
 
 -- the loads are the sums over the meetings of these pairs, what is held is theirs, and each push is small
-pub record Holds (s : SceneValue) (bodies : List Body) (centres : List Vec3) (held : List Held) (ps : List Pair) (met : Met) : Type 0 where
-  pub sums : met.loads.items ≡ loads_of s (meetings s bodies centres held ps)
-  pub kept : met.held ≡ map held_in (meetings s bodies centres held ps)
-  pub small : All (λ (m : Meeting). IsSmall m.push) (meetings s bodies centres held ps)
+pub record Holds (s : SceneValue) (bodies : List Body) (centers : List Vec3) (held : List Held) (ps : List Pair) (met : Met) : Type 0 where
+  pub sums : met.loads.items ≡ loads_of s (meetings s bodies centers held ps)
+  pub kept : met.held ≡ map held_in (meetings s bodies centers held ps)
+  pub small : All (λ (m : Meeting). IsSmall m.push) (meetings s bodies centers held ps)

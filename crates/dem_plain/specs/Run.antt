@@ -31,9 +31,9 @@ abbrev pub meeting_with : Pair → Push → Meeting
 meeting_with pair push = record { pair = pair; push = push }
 
 -- what a run keeps: its state is that of the plain run, its bodies are sound, what is held is within its range
-pub record IsRun (s : SceneValue) (centres : List Vec3) (state : State) : Type 0 where
+pub record IsRun (s : SceneValue) (centers : List Vec3) (state : State) : Type 0 where
   pub scene : IsSound s
-  pub room : length centres ≡ sphere_count s
+  pub room : length centers ≡ sphere_count s
   pub plain : plain_at s state.step ≡ Some state
   pub bodies : AreSound s state.bodies
   pub held : AreStored state.held

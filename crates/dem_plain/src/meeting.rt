@@ -3,7 +3,7 @@
 ghost use Rattle.std.specs.Prelude.{◌≡◌, ◌<◌, ◌≤◌, ◌^◌, IfSome, All};
 ghost use Rattle.std.specs.Option.{option_map, unwrap_or};
 ghost use Rattle.dem_num.specs.Vectors.{widened, narrowed, no_vector, Within};
-ghost use Rattle.dem_model.specs.Centres.{touch_of};
+ghost use Rattle.dem_model.specs.Centers.{touch_of};
 ghost use Rattle.dem_model.specs.Motion.{AreInside, AreSound, IsPair};
 ghost use Rattle.dem_model.specs.Ranges.{IsTouch, IsSmall};
 ghost use Rattle.dem_model.specs.Step.{held_at, meeting, same_pair};
@@ -25,7 +25,7 @@ pub fn push_of(
     pair: Pair,
 ) -> Option<Push>
     requires pair { IsPair shapes.now pair }
-    requires centres { AreInside shapes.now centers.now }
+    requires centers { AreInside shapes.now centers.now }
     requires sound { AreSound shapes.now bodies.now }
     requires stored { AreStored held.now }
     ensures value { option_map (meeting_with pair) result ≡ meeting shapes.now bodies.now centers.now pair (held_at held.now pair) }
@@ -43,7 +43,7 @@ fn touched<L: Ledger>(shapes: &Shapes, centers: &Centers, pair: Pair, blank: Bla
     requires parts { blank.parts ≡ L.parts }
     requires some { 0 < L.parts }
     requires pair { IsPair shapes.now pair }
-    requires centres { AreInside shapes.now centers.now }
+    requires centers { AreInside shapes.now centers.now }
     ensures value { result ≡ touch_of shapes.now centers.now pair }
     ensures ranges { IfSome result IsTouch }
 {

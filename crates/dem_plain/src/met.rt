@@ -34,7 +34,7 @@ pub fn all_met(
     bodies: &[Body],
     held: &[Held],
 ) -> Result<Met, OutOfMemory>
-    requires centres { AreInside shapes.now centers.now }
+    requires centers { AreInside shapes.now centers.now }
     requires sound { AreSound shapes.now bodies.now }
     requires stored { AreStored held.now }
     ensures { IfOk result (Holds shapes.now bodies.now centers.now held.now (all_pairs shapes.now)) }
@@ -48,7 +48,7 @@ pub fn all_met(
 
 /// No pair has met: a load of nothing per clump, and nothing held.
 fn nothing_met(alloc: Global, shapes: &Shapes) -> Result<Met, OutOfMemory>
-    ensures { IfOk result (λ met. (bodies : List Body) (centres : List Vec3) (held : List Held) → Holds shapes.now bodies centres held [] met) }
+    ensures { IfOk result (λ met. (bodies : List Body) (centers : List Vec3) (held : List Held) → Holds shapes.now bodies centers held [] met) }
 {
     Ok(Met {
         loads: no_loads(alloc, shapes)?,
@@ -83,7 +83,7 @@ fn meet_row(
     held: &[Held],
     a: u32,
 ) -> Result<(), OutOfMemory>
-    requires centres { AreInside shapes.now centers.now }
+    requires centers { AreInside shapes.now centers.now }
     requires sound { AreSound shapes.now bodies.now }
     requires stored { AreStored held.now }
     requires sphere { a < sphere_count shapes.now }
@@ -107,7 +107,7 @@ fn meet(
     held: &[Held],
     pair: Pair,
 ) -> Result<(), OutOfMemory>
-    requires centres { AreInside shapes.now centers.now }
+    requires centers { AreInside shapes.now centers.now }
     requires sound { AreSound shapes.now bodies.now }
     requires stored { AreStored held.now }
     requires first { pair.a < sphere_count shapes.now }

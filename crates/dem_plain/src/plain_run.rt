@@ -3,7 +3,7 @@
 ghost use Rattle.std.specs.Prelude.{◌≡◌, ◌<◌, ◌≤◌, length, IfOk, Some};
 ghost use Rattle.dem_model.specs.Motion.{AreInside, AreSound};
 ghost use Rattle.dem_model.specs.Plain.{first_state, plain_at};
-ghost use Rattle.dem_model.specs.Centres.{centres_of};
+ghost use Rattle.dem_model.specs.Centers.{centers_of};
 ghost use Rattle.dem_plain.specs.Run.{AreStored, StepsPlain, IsAfter};
 
 use crate::advancing::advanced;
@@ -97,7 +97,7 @@ pub fn first_bodies(alloc: Global, scene: &Scene) -> Result<List<Body>, OutOfMem
 /// The state after a state, or the limit that its step passes.
 fn stepped(alloc: Global, shapes: &Shapes, centers: &Centers, state: &State) -> Result<State, Stop>
     requires sound { AreSound shapes.now state.now.bodies }
-    requires centres { centers.now ≡ centres_of shapes.now state.now.bodies }
+    requires centers { centers.now ≡ centers_of shapes.now state.now.bodies }
     requires stored { AreStored state.now.held }
     requires goes_on { state.now.step < shapes.now.steps }
     ensures { IsAfter shapes.now state.now result }

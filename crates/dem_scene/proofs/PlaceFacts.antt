@@ -7,7 +7,7 @@ use Rattle.std.proofs.lemmas.List.Sums.{AllPass-from_list_all}
 use Rattle.std.proofs.lemmas.Option.{slice_get_cases}
 use Rattle.dem_model.specs.SceneValue.{SceneValue}
 use Rattle.dem_model.specs.Position.{in_box}
-use Rattle.dem_model.specs.Spheres.{balls_of, centre_of}
+use Rattle.dem_model.specs.Spheres.{balls_of, center_of}
 use Rattle.dem_model.specs.Sound.{IsBall, IsTemplate}
 use Rattle.dem_model.specs.declared.fault.SceneFault.{SceneFault}
 use Rattle.dem_model.specs.declared.shape.Ball.{Ball}
@@ -15,26 +15,26 @@ use Rattle.dem_model.specs.declared.shape.Template.{Template}
 use Rattle.dem_model.specs.declared.state.Body.{Body}
 use Rattle.dem_model.specs.declared.state.Clump.{Clump}
 use Rattle.dem_model.specs.Reading.{◌>>=◌}
-use Rattle.dem_model.specs.ReadingScene.{centres_inside, check_clump, check_clumps}
+use Rattle.dem_model.specs.ReadingScene.{centers_inside, check_clump, check_clumps}
 
 -- the front of a list from a place on
 front_at : {A : Type 0} (xs : List A) (i : ℕ) (d : A) → i < length xs → drop i xs ≡ get_or xs i d ∷ drop (i + 1) xs
 front_at xs i d h = rw add-one (drop-cons xs i d h)
 
 -- no sphere is left
-pub centres_done : (s : SceneValue) (b : Body) (balls : List Ball) (i : ℕ) → i ≡ length balls → centres_inside s b (drop i balls) ≡ true
-unfolding centres_inside
-centres_done s b balls i e = let d : drop i balls ≡ [] = rw e (drop-length balls) in ap (centres_inside s b) d
+pub centers_done : (s : SceneValue) (b : Body) (balls : List Ball) (i : ℕ) → i ≡ length balls → centers_inside s b (drop i balls) ≡ true
+unfolding centers_inside
+centers_done s b balls i e = let d : drop i balls ≡ [] = rw e (drop-length balls) in ap (centers_inside s b) d
 
--- one sphere, whose centre is known, and then those after it
-pub centres_step : (s : SceneValue) (b : Body) (balls : List Ball) (i : ℕ) (d : Ball) (place : Wide3) → i < length balls → place ≡ centre_of b (get_or balls i d) → centres_inside s b (drop i balls) ≡ (in_box s place && centres_inside s b (drop (i + 1) balls))
-unfolding centres_inside
-centres_step s b balls i d place h e = ap (centres_inside s b) (front_at balls i d h) ∙ ap (λ p. in_box s p && centres_inside s b (drop (i + 1) balls)) (sym e)
+-- one sphere, whose center is known, and then those after it
+pub centers_step : (s : SceneValue) (b : Body) (balls : List Ball) (i : ℕ) (d : Ball) (place : Wide3) → i < length balls → place ≡ center_of b (get_or balls i d) → centers_inside s b (drop i balls) ≡ (in_box s place && centers_inside s b (drop (i + 1) balls))
+unfolding centers_inside
+centers_step s b balls i d place h e = ap (centers_inside s b) (front_at balls i d h) ∙ ap (λ p. in_box s p && centers_inside s b (drop (i + 1) balls)) (sym e)
 
 -- where all are inside, each is
-pub centres_in_box : (s : SceneValue) (b : Body) (balls : List Ball) → centres_inside s b balls ≡ true → All (λ (x : Ball). IsTrue (in_box s (centre_of b x))) balls
-unfolding centres_inside
-centres_in_box s b balls h = AllPass-from_list_all (λ x. in_box s (centre_of b x)) balls h
+pub centers_in_box : (s : SceneValue) (b : Body) (balls : List Ball) → centers_inside s b balls ≡ true → All (λ (x : Ball). IsTrue (in_box s (center_of b x))) balls
+unfolding centers_inside
+centers_in_box s b balls h = AllPass-from_list_all (λ x. in_box s (center_of b x)) balls h
 
 -- the spheres of a template are within their ranges
 pub balls_in_range : (materials : ℕ) (templates : List Template) (t : ℕ) → All (IsTemplate materials) templates → t < length templates → All (IsBall materials) (balls_of templates t)

@@ -5,8 +5,8 @@ ghost use Rattle.std.specs.List.{list_all};
 ghost use Rattle.dem_num.specs.Vectors.{widened, sum_of, Within};
 ghost use Rattle.dem_num.specs.Rotations.{EntriesWithin, IsOrientation, matrix_of, turned_by, turned_of};
 ghost use Rattle.dem_model.specs.Position.{in_voxels, in_box};
-ghost use Rattle.dem_model.specs.Spheres.{balls_of, centre_of};
-ghost use Rattle.dem_model.specs.ReadingScene.{in_limits, centres_inside, is_inside, check_clump, check_clumps};
+ghost use Rattle.dem_model.specs.Spheres.{balls_of, center_of};
+ghost use Rattle.dem_model.specs.ReadingScene.{in_limits, centers_inside, is_inside, check_clump, check_clumps};
 ghost use Rattle.dem_model.specs.Sound.{IsBall, IsTemplate, IsClump};
 ghost use Rattle.dem_scene.specs.Clumps.{IsClumpRead};
 ghost use Rattle.dem_scene.specs.Table.{IsTable};
@@ -43,42 +43,42 @@ fn in_limits(draft: &Draft, body: Body) -> bool
     is_sized(body.v, draft.speed) && is_sized(body.w, draft.spin)
 }
 
-/// Where the centre of a sphere is, `m` being the matrix of the body's quaternion.
-#[tactic(auto, unfolding(dem_model::specs::Spheres::centre_of))]
-fn centre(m: &Rows, body: Body, ball: Ball) -> Wide3
+/// Where the center of a sphere is, `m` being the matrix of the body's quaternion.
+#[tactic(auto, unfolding(dem_model::specs::Spheres::center_of))]
+fn center(m: &Rows, body: Body, ball: Ball) -> Wide3
     requires entries { EntriesWithin m.now (2 ^ 30) }
     requires matrix { m.now ≡ matrix_of body.q }
     requires offset { Within (widened ball.at) (2 ^ 26) }
-    ensures { result ≡ centre_of body ball }
+    ensures { result ≡ center_of body ball }
 {
     add3(widen(body.p), widen(turned(m, ball.at)))
 }
 
-/// Whether the centre of each sphere lies in the box.
-fn centres_inside(draft: &Draft, m: &Rows, body: Body, balls: &[Ball]) -> bool
+/// Whether the center of each sphere lies in the box.
+fn centers_inside(draft: &Draft, m: &Rows, body: Body, balls: &[Ball]) -> bool
     requires entries { EntriesWithin m.now (2 ^ 30) }
     requires matrix { m.now ≡ matrix_of body.q }
     requires balls { All (IsBall (length draft.now.materials)) balls.now }
-    ensures { result ≡ centres_inside draft.now body balls.now }
+    ensures { result ≡ centers_inside draft.now body balls.now }
 {
     for ball in balls {
-        if !in_box(draft, centre(m, body, *ball)) {
+        if !in_box(draft, center(m, body, *ball)) {
             return false;
         }
     }
     true
 }
 
-/// Whether a body and the centre of each sphere lie in the box.
-#[tactic(auto, using(crate::proofs::PlaceFacts::centres_in_box), unfolding(dem_model::specs::ReadingScene::is_inside))]
+/// Whether a body and the center of each sphere lie in the box.
+#[tactic(auto, using(crate::proofs::PlaceFacts::centers_in_box), unfolding(dem_model::specs::ReadingScene::is_inside))]
 fn is_inside(draft: &Draft, body: Body, balls: &[Ball]) -> bool
     requires orientation { IsOrientation body.q }
     requires balls { All (IsBall (length draft.now.materials)) balls.now }
     ensures value { result ≡ is_inside draft.now body balls.now }
     ensures position { IsTrue result → IsTrue (in_box draft.now (widened body.p)) }
-    ensures centres { IsTrue result → All (λ ball. IsTrue (in_box draft.now (centre_of body ball))) balls.now }
+    ensures centers { IsTrue result → All (λ ball. IsTrue (in_box draft.now (center_of body ball))) balls.now }
 {
-    in_box(draft, widen(body.p)) && centres_inside(draft, &matrix(body.q), body, balls)
+    in_box(draft, widen(body.p)) && centers_inside(draft, &matrix(body.q), body, balls)
 }
 
 /// The spheres of a template.

@@ -1,4 +1,4 @@
--- What a pose says of its clump and of the centres of its spheres.
+-- What a pose says of its clump and of the centers of its spheres.
 use Rattle.std.proofs.Common.{◌≡◌, ℕ, ◌*◌, ◌^◌, ◌<◌, ◌≤◌, true, false, List, length, get_or, sym, ap, ◌∙◌, arith, subst}
 use Rattle.std.specs.Prelude.{ℤ, pos, negsuc, unsigned_abs, IsTrue, not, ◌&&◌, int_lt}
 use Rattle.std.proofs.lemmas.Bool.{and_parts, ltb-true}
@@ -11,8 +11,8 @@ use Rattle.dem_turn.proofs.StillFacts.{sum_turned_zero}
 use Rattle.dem_model.specs.SceneValue.{SceneValue}
 use Rattle.dem_model.specs.Position.{in_voxels, in_box}
 use Rattle.dem_model.specs.Sound.{IsSound}
-use Rattle.dem_model.specs.Spheres.{Sphere, centre_of}
-use Rattle.dem_model.specs.Centres.{body_at, still_body, placed}
+use Rattle.dem_model.specs.Spheres.{Sphere, center_of}
+use Rattle.dem_model.specs.Centers.{body_at, still_body, placed}
 use Rattle.dem_model.specs.Motion.{AreSound}
 use Rattle.dem_model.specs.declared.limits.TheConstants.{MAX_VOXELS, VOXEL}
 use Rattle.dem_model.specs.declared.state.Body.{Body}
@@ -77,7 +77,7 @@ pose_own s bodies k pose h = subst (λ n. IsPose s bodies n pose) (sym h.clump) 
 -- a sphere of the clump stands at the pose's place and its turned offset
 pub pose_places : (s : SceneValue) (bodies : List Body) (x : Sphere) (pose : Pose) (o : Vec3) → IsPose s bodies x.clump pose →
     widened o ≡ turned_by pose.rows (widened x.ball.at) → narrowed (sum_of (widened pose.p) (widened o)) ≡ placed bodies x
-unfolding placed centre_of
+unfolding placed center_of
 pose_places s bodies x pose o h e =
     ap (λ v. narrowed (sum_of (widened pose.p) v)) e
     ∙ ap (λ p. narrowed (sum_of (widened p) (turned_by pose.rows (widened x.ball.at)))) h.place
@@ -86,7 +86,7 @@ pose_places s bodies x pose o h e =
 -- a sphere without offset stands where its clump's body does
 pub own_places : (bodies : List Body) (x : Sphere) (k : ℕ) (d : Body) → k < length bodies → k ≡ x.clump → is_zero (widened x.ball.at) ≡ true →
     (get_or bodies k d).p ≡ placed bodies x
-unfolding placed centre_of
+unfolding placed center_of
 own_places bodies x k d lt e zero =
     ap (λ (b : Body). b.p) (body_read bodies k d lt ∙ ap (body_at bodies) e)
     ∙ ap narrowed (sym (sum_turned_zero (widened (body_at bodies x.clump).p) (matrix_of (body_at bodies x.clump).q) (widened x.ball.at) zero))

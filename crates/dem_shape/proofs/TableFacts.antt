@@ -13,17 +13,17 @@ use Rattle.dem_model.specs.declared.state.Clump.{Clump}
 use Rattle.dem_model.proofs.SphereFacts.{spheres_from-push}
 use Rattle.dem_model.specs.declared.limits.TheConstants.{MAX_SPHERES}
 use Rattle.dem_shape.specs.declared.entry.Entry.{Entry}
-use Rattle.dem_shape.specs.Table.{entry_of, IsTable}
+use Rattle.dem_shape.specs.Table.{table_entry_of, IsTable}
 
 -- there is an entry for each sphere
 pub table_length : (s : SceneValue) (es : List Entry) → IsTable s es → length es ≡ sphere_count s
 unfolding sphere_count
-table_length s es t = ap length t.each ∙ length-map (spheres_of s) (entry_of s)
+table_length s es t = ap length t.each ∙ length-map (spheres_of s) (table_entry_of s)
 
 -- the entry at a place is that of its sphere
-pub table_entry : (s : SceneValue) (es : List Entry) (i : ℕ) (d : Entry) → IsTable s es → i < sphere_count s → get_or es i d ≡ entry_of s (sphere_at s i)
+pub table_entry : (s : SceneValue) (es : List Entry) (i : ℕ) (d : Entry) → IsTable s es → i < sphere_count s → get_or es i d ≡ table_entry_of s (sphere_at s i)
 unfolding sphere_at sphere_count
-table_entry s es i d t h = ap (λ xs. get_or xs i d) t.each ∙ get_or-map (entry_of s) (spheres_of s) i no_sphere d h
+table_entry s es i d t h = ap (λ xs. get_or xs i d) t.each ∙ get_or-map (table_entry_of s) (spheres_of s) i no_sphere d h
 
 -- there are few spheres
 pub table_small : (s : SceneValue) (es : List Entry) → IsTable s es → sphere_count s ≤ MAX_SPHERES
@@ -32,26 +32,26 @@ table_small s es t = t.sound.sphere_count
 
 -- the table goes on with the spheres of one more clump
 pub table_more : (s : SceneValue) (k : ℕ) (c : Clump) (old new : List Entry) → slice_get s.clumps k ≡ Some c →
-    old ≡ map (entry_of s) (spheres_from s.templates 0 (take k s.clumps)) →
-    new ≡ old ++ map (entry_of s) (spheres_of_clump s.templates k c.t) →
-    new ≡ map (entry_of s) (spheres_from s.templates 0 (take (k + 1) s.clumps))
+    old ≡ map (table_entry_of s) (spheres_from s.templates 0 (take k s.clumps)) →
+    new ≡ old ++ map (table_entry_of s) (spheres_of_clump s.templates k c.t) →
+    new ≡ map (table_entry_of s) (spheres_from s.templates 0 (take (k + 1) s.clumps))
 table_more s k c old new at before after =
     let lt : k < length s.clumps = slice_get_within s.clumps k c at in
     let item : get_or s.clumps k c ≡ c = get_or_from_slice_get s.clumps k c c at in
     let more : take (k + 1) s.clumps ≡ take k s.clumps ++ c ∷ [] = take_more s.clumps k c lt ∙ ap (λ x. take k s.clumps ++ x ∷ []) item in
     let place : 0 + length (take k s.clumps) ≡ k = omega (arith, length-take-le k s.clumps (omega arith)) in
     after
-    ∙ ap (λ xs. xs ++ map (entry_of s) (spheres_of_clump s.templates k c.t)) before
-    ∙ sym (map-append (entry_of s) (spheres_from s.templates 0 (take k s.clumps)) (spheres_of_clump s.templates k c.t))
-    ∙ ap (λ n. map (entry_of s) (spheres_from s.templates 0 (take k s.clumps) ++ spheres_of_clump s.templates n c.t)) (sym place)
-    ∙ ap (map (entry_of s)) (sym (spheres_from-push s.templates 0 (take k s.clumps) c))
-    ∙ ap (λ xs. map (entry_of s) (spheres_from s.templates 0 xs)) (sym more)
+    ∙ ap (λ xs. xs ++ map (table_entry_of s) (spheres_of_clump s.templates k c.t)) before
+    ∙ sym (map-append (table_entry_of s) (spheres_from s.templates 0 (take k s.clumps)) (spheres_of_clump s.templates k c.t))
+    ∙ ap (λ n. map (table_entry_of s) (spheres_from s.templates 0 (take k s.clumps) ++ spheres_of_clump s.templates n c.t)) (sym place)
+    ∙ ap (map (table_entry_of s)) (sym (spheres_from-push s.templates 0 (take k s.clumps) c))
+    ∙ ap (λ xs. map (table_entry_of s) (spheres_from s.templates 0 xs)) (sym more)
 
 -- the table is whole after the last clump
 pub table_all : (s : SceneValue) (k : ℕ) (es : List Entry) → IsSound s → length s.clumps ≤ k →
-    es ≡ map (entry_of s) (spheres_from s.templates 0 (take k s.clumps)) → IsTable s es
+    es ≡ map (table_entry_of s) (spheres_from s.templates 0 (take k s.clumps)) → IsTable s es
 unfolding spheres_of
-table_all s k es sound le e = record { each = e ∙ ap (λ xs. map (entry_of s) (spheres_from s.templates 0 xs)) (take_all k s.clumps le); sound = sound }
+table_all s k es sound le e = record { each = e ∙ ap (λ xs. map (table_entry_of s) (spheres_from s.templates 0 xs)) (take_all k s.clumps le); sound = sound }
 
 -- a clump's template is there
 pub clump_template : (s : SceneValue) (k : ℕ) (c : Clump) → IsSound s → slice_get s.clumps k ≡ Some c → c.t < length s.templates

@@ -3,7 +3,7 @@ use Rattle.std.specs.Prelude.{ℕ, ◌≡◌, ◌<◌, ◌^◌, List, length}
 use Rattle.dem_num.specs.Vectors.{widened, Within}
 use Rattle.dem_num.specs.Rotations.{matrix_of, EntriesWithin}
 use Rattle.dem_model.specs.SceneValue.{SceneValue}
-use Rattle.dem_model.specs.Centres.{body_at}
+use Rattle.dem_model.specs.Centers.{body_at}
 use Rattle.dem_model.specs.declared.state.Body.{Body}
 use Rattle.dem_shape.specs.declared.pose.Pose.{Pose}
 

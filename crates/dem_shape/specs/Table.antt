@@ -9,10 +9,10 @@ use Rattle.dem_model.specs.Motion.{per_step_of}
 use Rattle.dem_shape.specs.declared.entry.Entry.{Entry}
 
 -- a sphere's clump, its place in the template, its arm and its movement bound
-abbrev pub entry_of : SceneValue → Sphere → Entry
-entry_of s x = record { clump = x.clump; ball = x.ball; arm = arm_of (widened x.ball.at); per_step = per_step_of s x.ball }
+abbrev pub table_entry_of : SceneValue → Sphere → Entry
+table_entry_of s x = record { clump = x.clump; ball = x.ball; arm = arm_of (widened x.ball.at); per_step = per_step_of s x.ball }
 
 -- the table has an entry for each sphere of a sound scene, in order
 pub record IsTable (s : SceneValue) (entries : List Entry) : Type 0 where
-  pub each : entries ≡ map (entry_of s) (spheres_of s)
+  pub each : entries ≡ map (table_entry_of s) (spheres_of s)
   pub sound : IsSound s

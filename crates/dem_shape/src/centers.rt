@@ -1,7 +1,7 @@
-//! The centres of all spheres in a state.
+//! The centers of all spheres in a state.
 
 ghost use Rattle.std.specs.Prelude.{◌≡◌, ◌<◌, length, IfOk};
-ghost use Rattle.dem_model.specs.Centres.{centres_of, centre_at};
+ghost use Rattle.dem_model.specs.Centers.{centers_of, center_at};
 ghost use Rattle.dem_model.specs.Motion.{AreSound};
 ghost use Rattle.dem_model.specs.Pairs.{sphere_count};
 
@@ -13,7 +13,7 @@ use dem_turn::is_zero;
 use std::alloc::Global;
 use std::marker::Model;
 
-/// A centre per sphere, in u, in the order of the spheres' numbers.
+/// A center per sphere, in u, in the order of the spheres' numbers.
 #[derive(Drop)]
 pub struct Centers {
     items: Vec<Vec3>,
@@ -29,7 +29,7 @@ impl Model for Centers {
 }
 
 impl Centers {
-    /// Room for the centres of these shapes.
+    /// Room for the centers of these shapes.
     pub fn new(alloc: Global, shapes: &Shapes) -> Result<Centers, OutOfMemory>
         ensures { IfOk result (λ x. length x ≡ sphere_count shapes.now) }
     {
@@ -42,11 +42,11 @@ impl Centers {
         Ok(Centers { items })
     }
 
-    /// Sets every centre to where the bodies put it.
+    /// Sets every center to where the bodies put it.
     pub fn fill(&mut self, shapes: &Shapes, bodies: &[Body])
         requires made { length self.old ≡ sphere_count shapes.now }
         requires sound { AreSound shapes.now bodies.now }
-        ensures { self.new ≡ centres_of shapes.now bodies.now }
+        ensures { self.new ≡ centers_of shapes.now bodies.now }
     {
         let _scene = shapes.scene();
         let mut pose = Pose::new(shapes, bodies, 0);
@@ -60,11 +60,11 @@ impl Centers {
         }
     }
 
-    /// The centre of a sphere, in u.
-    #[tactic(auto, unfolding(dem_model::specs::Centres::centre_at))]
+    /// The center of a sphere, in u.
+    #[tactic(auto, unfolding(dem_model::specs::Centers::center_at))]
     pub fn get(&self, s: u32) -> Vec3
         requires { s < length self.now }
-        ensures { result ≡ centre_at self.now s }
+        ensures { result ≡ center_at self.now s }
     {
         self.items[s as usize]
     }

@@ -3,7 +3,7 @@
 ghost use Rattle.std.specs.Prelude.{◌≡◌, ◌≤◌, length};
 ghost use Rattle.dem_model.specs.Sound.{IsBall};
 ghost use Rattle.dem_model.specs.Spheres.{sphere_of};
-ghost use Rattle.dem_shape.specs.Table.{entry_of};
+ghost use Rattle.dem_shape.specs.Table.{table_entry_of};
 
 use dem_model::{Ball, Scene, VOXEL};
 use dem_turn::{arm, swing_limit};
@@ -22,7 +22,7 @@ impl Entry {
     #[tactic(auto, unfolding(dem_model::specs::Motion::per_step_of))]
     pub fn new(scene: &Scene, clump: u32, ball: Ball) -> Entry
         requires { IsBall (length scene.now.materials) ball }
-        ensures { result ≡ entry_of scene.now (sphere_of clump ball) }
+        ensures { result ≡ table_entry_of scene.now (sphere_of clump ball) }
     {
         let arm = arm(ball.at);
         let per_step = scene.speed.div_ceil(VOXEL) + swing_limit(scene.spin, arm);

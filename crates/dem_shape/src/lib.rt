@@ -1,9 +1,9 @@
-//! The table of spheres of a scene, the centres of all spheres in a state, and the bodies of a step.
+//! The table of spheres of a scene, the centers of all spheres in a state, and the bodies of a step.
 //!
 //! `Shapes` numbers the spheres through all clumps in order and answers each one's clump, template sphere, arm and
-//! movement bound in constant time; `is_apart` tells which pairs may touch at all; `Centers` holds a centre per sphere,
-//! `Snapshot` the bodies of a step, `Pose` one clump's matrix. Means: `Spheres`, `Pairs`, `Centres`, `Motion` of dem_model. Callers rest on: a Shapes
-//! is seen as its scene, a Centers as the list of centres; `fill` makes them those of the bodies.
+//! movement bound in constant time; `is_apart` tells which pairs may touch at all; `Centers` holds a center per sphere,
+//! `Snapshot` the bodies of a step, `Pose` one clump's matrix. Means: `Spheres`, `Pairs`, `Centers`, `Motion` of dem_model. Callers rest on: a Shapes
+//! is seen as its scene, a Centers as the list of centers; `fill` makes them those of the bodies.
 //! Takes memory: the three `new`. Not here: touch (dem_force), rotations (dem_turn).
 #![tactic(auto)]
 

@@ -4,7 +4,7 @@ ghost use Rattle.std.specs.Prelude.{◌≡◌, ◌<◌, ◌≤◌, ◌^◌, leng
 ghost use Rattle.std.specs.Prelude.{◌+ℤ◌};
 ghost use Rattle.dem_num.specs.Numbers.{AtMost};
 ghost use Rattle.dem_num.specs.Vectors.{widened, narrowed, sum_of, is_zero, Within};
-ghost use Rattle.dem_model.specs.Centres.{placed};
+ghost use Rattle.dem_model.specs.Centers.{placed};
 ghost use Rattle.dem_model.specs.Motion.{AreSound};
 ghost use Rattle.dem_model.specs.Pairs.{sphere_count, sphere_at};
 ghost use Rattle.dem_shape.specs.Pose.{IsPose};
@@ -53,7 +53,7 @@ impl Pose {
         }
     }
 
-    /// The centre of a sphere of the clump, in u.
+    /// The center of a sphere of the clump, in u.
     pub fn center(&self, shapes: &Shapes, bodies: &[Body], s: u32) -> Vec3
         requires sphere { s < sphere_count shapes.now }
         requires pose { IsPose shapes.now bodies.now (sphere_at shapes.now s).clump self.now }
@@ -64,7 +64,7 @@ impl Pose {
     }
 }
 
-/// The centre of a sphere that stands where its clump does, however the clump is turned.
+/// The center of a sphere that stands where its clump does, however the clump is turned.
 pub fn own_place(shapes: &Shapes, bodies: &[Body], s: u32) -> Vec3
     requires sound { AreSound shapes.now bodies.now }
     requires sphere { s < sphere_count shapes.now }

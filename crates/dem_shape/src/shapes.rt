@@ -7,7 +7,7 @@ ghost use Rattle.dem_model.specs.Motion.{per_step_of, IsSphere};
 ghost use Rattle.dem_model.specs.Pairs.{sphere_count, sphere_at};
 ghost use Rattle.dem_model.specs.Sound.{IsSound, IsBall};
 ghost use Rattle.dem_model.specs.Spheres.{spheres_of_clump};
-ghost use Rattle.dem_shape.specs.Table.{entry_of};
+ghost use Rattle.dem_shape.specs.Table.{table_entry_of};
 
 use crate::entry::Entry;
 use dem_model::{Ball, OutOfMemory, Scene};
@@ -106,7 +106,7 @@ impl<'s> Shapes<'s> {
     /// What the table keeps of a sphere.
     fn entry(&self, s: u32) -> Entry
         requires { s < sphere_count self.now }
-        ensures value { result ≡ entry_of self.now (sphere_at self.now s) }
+        ensures value { result ≡ table_entry_of self.now (sphere_at self.now s) }
         ensures sound { IsSphere self.now (sphere_at self.now s) }
     {
         self.entries[s as usize]
@@ -116,7 +116,7 @@ impl<'s> Shapes<'s> {
 /// Adds the spheres of one clump to the table.
 fn add_clump(entries: &mut Vec<Entry>, scene: &Scene, clump: u32, t: u32) -> Result<(), OutOfMemory>
     requires { t < length scene.now.templates }
-    ensures { OnOk result (entries.new.items ≡ entries.old.items ++ map (entry_of scene.now) (spheres_of_clump scene.now.templates clump t)) }
+    ensures { OnOk result (entries.new.items ≡ entries.old.items ++ map (table_entry_of scene.now) (spheres_of_clump scene.now.templates clump t)) }
 {
     for ball in scene.templates.get(t as usize).balls.as_slice() {
         if entries.push(Entry::new(scene, clump, *ball)).is_err() {

@@ -1,7 +1,7 @@
 //! The bodies of all clumps at a step, as one thread hands them to another.
 
 ghost use Rattle.std.specs.Prelude.{◌≡◌, IfOk, replicate};
-ghost use Rattle.dem_model.specs.Centres.{still_body};
+ghost use Rattle.dem_model.specs.Centers.{still_body};
 
 use dem_model::{Body, List, OutOfMemory};
 use dem_num::{Quat, Vec3};

@@ -20,9 +20,9 @@ use Rattle.dem_num.proofs.Sizes.{shifted-size, sum_le}
 use Rattle.dem_num.proofs.VectorSizes.{within_wider}
 use Rattle.dem_model.specs.SceneValue.{SceneValue}
 use Rattle.dem_model.specs.Sound.{IsSound}
-use Rattle.dem_model.specs.Spheres.{Sphere, sphere_of, balls_of, spheres_of_clump, spheres_from, spheres_of, centre_of}
+use Rattle.dem_model.specs.Spheres.{Sphere, sphere_of, balls_of, spheres_of_clump, spheres_from, spheres_of, center_of}
 use Rattle.dem_model.specs.Pairs.{all_pairs, sphere_at, sphere_count, no_sphere}
-use Rattle.dem_model.specs.Centres.{body_at, still_body, placed, centre_at, centres_of}
+use Rattle.dem_model.specs.Centers.{body_at, still_body, placed, center_at, centers_of}
 use Rattle.dem_model.specs.Motion.{AreSound, per_step_of}
 use Rattle.dem_model.specs.Near.{drift_of, HasDrifted}
 use Rattle.dem_model.specs.Advance.{is_over, leaves_box, swings, position_after, body_with, limited, velocity_after, spin_after, mass_of, moments_of, body_torque_of, advance_of}
@@ -100,11 +100,11 @@ swings_within spin balls old new h = λ i d lt.
     (none_passes (λ (x : Ball). is_over (swing_limit_of spin (arm_of (widened x.at))) (difference_of (turned_of new.q (widened x.at)) (turned_of old.q (widened x.at)))) balls h i d lt)
 
 -- a sphere moves with its clump, and with its turned offset
-centre_moves : (s : SceneValue) (b : Body) (v w : Wide3) (x : Ball) → Within v s.speed →
+center_moves : (s : SceneValue) (b : Body) (v w : Wide3) (x : Ball) → Within v s.speed →
     Within (difference_of (turned_of (body_with b v w).q (widened x.at)) (turned_of b.q (widened x.at))) (swing_limit_of s.spin (arm_of (widened x.at))) →
-    Within (difference_of (centre_of (body_with b v w) x) (centre_of b x)) (per_step_of s x)
-unfolding centre_of per_step_of body_with position_after
-centre_moves s b v w x fast swung =
+    Within (difference_of (center_of (body_with b v w) x) (center_of b x)) (per_step_of s x)
+unfolding center_of per_step_of body_with position_after
+center_moves s b v w x fast swung =
     let d = shifts_within v s.speed fast in
     let m : ℕ = (s.speed + (VOXEL - 1)) / VOXEL in
     let k : ℕ = swing_limit_of s.spin (arm_of (widened x.at)) in
@@ -116,16 +116,16 @@ centre_moves s b v w x fast swung =
 
 -- a step within the limits moves no sphere farther than it may move in one step
 limited-moves : (s : SceneValue) (balls : List Ball) (b b' : Body) (v w : Wide3) → limited s balls b v w ≡ Ok b' →
-    All (λ (x : Ball). Within (difference_of (centre_of b' x) (centre_of b x)) (per_step_of s x)) balls
+    All (λ (x : Ball). Within (difference_of (center_of b' x) (center_of b x)) (per_step_of s x)) balls
 limited-moves s balls b b' v w ok =
     let kept = limited_kept s balls b b' v w ok in
     λ i d lt.
-    subst (λ (n : Body). Within (difference_of (centre_of n (get_or balls i d)) (centre_of b (get_or balls i d))) (per_step_of s (get_or balls i d))) (sym kept.same)
-    (centre_moves s b v w (get_or balls i d) (is_over-within s.speed v kept.fast_not) (swings_within s.spin balls b (body_with b v w) kept.swung_not i d lt))
+    subst (λ (n : Body). Within (difference_of (center_of n (get_or balls i d)) (center_of b (get_or balls i d))) (per_step_of s (get_or balls i d))) (sym kept.same)
+    (center_moves s b v w (get_or balls i d) (is_over-within s.speed v kept.fast_not) (swings_within s.spin balls b (body_with b v w) kept.swung_not i d lt))
 
 -- a clump's step moves none of its spheres farther than it may move in one step
 pub advance-moves : (s : SceneValue) (t : ℕ) (b b' : Body) (w : Load) → advance_of s t b w ≡ Ok b' →
-    All (λ (x : Ball). Within (difference_of (centre_of b' x) (centre_of b x)) (per_step_of s x)) (balls_of s.templates t)
+    All (λ (x : Ball). Within (difference_of (center_of b' x) (center_of b x)) (per_step_of s x)) (balls_of s.templates t)
 unfolding advance_of
 advance-moves s t b b' w ok =
     limited-moves s (balls_of s.templates t) b b' (velocity_after s.gravity (mass_of s.templates t) b.v w.force)
@@ -205,10 +205,10 @@ sphere_at-stands : (s : SceneValue) (i : ℕ) → i < sphere_count s → StandsI
 unfolding sphere_at sphere_count spheres_of clump_at
 sphere_at-stands s i there = spheres_from-stand s 0 s.clumps (omega arith) (λ j lt. rw zero-add refl) i no_sphere there
 
--- the centre of a sphere is where its clump's body has it
-centre_at-placed : (s : SceneValue) (bodies : List Body) (i : ℕ) → i < sphere_count s → centre_at (centres_of s bodies) i ≡ placed bodies (sphere_at s i)
-unfolding centre_at centres_of sphere_at sphere_count
-centre_at-placed s bodies i lt = get_or-map (placed bodies) (spheres_of s) i no_sphere (narrowed no_vector) lt
+-- the center of a sphere is where its clump's body has it
+center_at-placed : (s : SceneValue) (bodies : List Body) (i : ℕ) → i < sphere_count s → center_at (centers_of s bodies) i ≡ placed bodies (sphere_at s i)
+unfolding center_at centers_of sphere_at sphere_count
+center_at-placed s bodies i lt = get_or-map (placed bodies) (spheres_of s) i no_sphere (narrowed no_vector) lt
 
 -- a sphere moves no farther than it may in one step, where its clump's step is within the limits
 sphere_moves : (s : SceneValue) (x : Sphere) (bodies next : List Body) (w : Load) → StandsIn s x →
@@ -216,12 +216,12 @@ sphere_moves : (s : SceneValue) (x : Sphere) (bodies next : List Body) (w : Load
     Within (difference_of (widened (placed next x)) (widened (placed bodies x))) (per_step_of s x.ball)
 unfolding placed
 sphere_moves s x bodies next w there ok =
-    All-contains (λ (y : Ball). Within (difference_of (centre_of (body_at next x.clump) y) (centre_of (body_at bodies x.clump) y)) (per_step_of s y))
+    All-contains (λ (y : Ball). Within (difference_of (center_of (body_at next x.clump) y) (center_of (body_at bodies x.clump) y)) (per_step_of s y))
     (balls_of s.templates (clump_at s x.clump).t) x.ball (advance-moves s (clump_at s x.clump).t (body_at bodies x.clump) (body_at next x.clump) w ok) there.ball
 
 -- where all clumps advance, each sphere moves no farther than it may in one step
 pub advanced-drifts : (s : SceneValue) (step : ℕ) (bodies next : List Body) (loads : List Load) → length bodies ≡ length s.clumps → length loads ≡ length s.clumps →
-    advanced_from s step 0 s.clumps bodies loads ≡ Ok next → HasDrifted s 1 (centres_of s bodies) (centres_of s next)
+    advanced_from s step 0 s.clumps bodies loads ≡ Ok next → HasDrifted s 1 (centers_of s bodies) (centers_of s next)
 unfolding drift_of
 advanced-drifts s step bodies next loads lb lw ok = record {
   each = λ i lt.
@@ -229,7 +229,7 @@ advanced-drifts s step bodies next loads lb lw ok = record {
       let own : advance_of s (clump_at s (sphere_at s i).clump).t (body_at bodies (sphere_at s i).clump) (get_or loads (sphere_at s i).clump no_load) ≡ Ok (body_at next (sphere_at s i).clump) =
       unfold clump_at body_at in advanced_from-at s step 0 s.clumps bodies loads next lb lw ok (sphere_at s i).clump there.clump in
       let moves = sphere_moves s (sphere_at s i) bodies next (get_or loads (sphere_at s i).clump no_load) there own in
-      rw (centre_at-placed s next i lt, centre_at-placed s bodies i lt)
+      rw (center_at-placed s next i lt, center_at-placed s bodies i lt)
       (within_wider _ (per_step_of s (sphere_at s i).ball) (1 * per_step_of s (sphere_at s i).ball) moves (omega arith));
 }
 
@@ -241,15 +241,15 @@ state_with-bodies step ms (Ok bodies) = refl
 
 -- the meetings of a plain step
 meetings_of : SceneValue → State → List Meeting
-meetings_of s st = meetings s st.bodies (centres_of s st.bodies) st.held (all_pairs s)
+meetings_of s st = meetings s st.bodies (centers_of s st.bodies) st.held (all_pairs s)
 
 -- a plain step is one of all clumps
 step_of-bodies : (s : SceneValue) (st next : State) → step_of s st ≡ Ok next →
     advanced_from s (st.step + 1) 0 s.clumps st.bodies (loads_of s (meetings_of s st)) ≡ Ok next.bodies
 unfolding step_of step_with meetings_of
 step_of-bodies s st next ok =
-    let ms : List Meeting = meetings s st.bodies (centres_of s st.bodies) st.held (all_pairs s) in
-    let r : Result (List Body) End = advanced_from s (st.step + 1) 0 s.clumps st.bodies (loads_of s (meetings s st.bodies (centres_of s st.bodies) st.held (all_pairs s))) in
+    let ms : List Meeting = meetings s st.bodies (centers_of s st.bodies) st.held (all_pairs s) in
+    let r : Result (List Body) End = advanced_from s (st.step + 1) 0 s.clumps st.bodies (loads_of s (meetings s st.bodies (centers_of s st.bodies) st.held (all_pairs s))) in
     IfOk-at_ok (λ (x : State). r ≡ Ok x.bodies) ok (state_with-bodies (st.step + 1) ms r)
 
 -- a plain step leaves a body for each clump
@@ -259,13 +259,13 @@ step-count s st next count ok =
 
 -- in a plain step each sphere moves no farther than it may in one step, where there is a body for each clump
 pub step-moves : (s : SceneValue) (st next : State) → length st.bodies ≡ length s.clumps → step_of s st ≡ Ok next →
-    HasDrifted s 1 (centres_of s st.bodies) (centres_of s next.bodies)
+    HasDrifted s 1 (centers_of s st.bodies) (centers_of s next.bodies)
 step-moves s st next count ok =
     advanced-drifts s (st.step + 1) st.bodies next.bodies (loads_of s (meetings_of s st)) count (length-loads_of s (meetings_of s st)) (step_of-bodies s st next ok)
 
 -- in a plain step of sound bodies each sphere moves no farther than it may in one step
 pub step-drifts : (s : SceneValue) (st next : State) → IsSound s → AreSound s st.bodies → step_of s st ≡ Ok next →
-    HasDrifted s 1 (centres_of s st.bodies) (centres_of s next.bodies)
+    HasDrifted s 1 (centers_of s st.bodies) (centers_of s next.bodies)
 step-drifts s st next sound bodies ok = step-moves s st next bodies.count ok
 
 -- ---- several steps
@@ -287,11 +287,11 @@ differences_join a b c m n h k = record {
 }
 
 -- in no steps nothing moves
-pub drifts-none : (s : SceneValue) (centres : List Vec3) → HasDrifted s 0 centres centres
+pub drifts-none : (s : SceneValue) (centers : List Vec3) → HasDrifted s 0 centers centers
 unfolding drift_of
-drifts-none s centres = record {
+drifts-none s centers = record {
   each = λ i lt.
-      let c : Vec3 = centre_at centres i in
+      let c : Vec3 = center_at centers i in
       within_wider _ 0 (0 * per_step_of s (sphere_at s i).ball) (record { x = difference_none c.x; y = difference_none c.y; z = difference_none c.z }) (omega arith);
 }
 
@@ -302,7 +302,7 @@ drifts-join s m n a b c h k = record {
   each = λ i lt.
       let p : ℕ = per_step_of s (sphere_at s i).ball in
       within_wider _ (m * p + n * p) ((m + n) * p)
-      (differences_join (widened (centre_at a i)) (widened (centre_at b i)) (widened (centre_at c i)) (m * p) (n * p) (h.each i lt) (k.each i lt))
+      (differences_join (widened (center_at a i)) (widened (center_at b i)) (widened (center_at c i)) (m * p) (n * p) (h.each i lt) (k.each i lt))
       (omega arith);
 }
 
@@ -351,20 +351,20 @@ plain-count s (suc n) st h =
 
 -- along the plain run each sphere moves no farther than it may in so many steps
 pub run-moves : (s : SceneValue) (n k : ℕ) (early late : State) → plain_at s n ≡ Some early → plain_at s (n + k) ≡ Some late →
-    HasDrifted s k (centres_of s early.bodies) (centres_of s late.bodies)
+    HasDrifted s k (centers_of s early.bodies) (centers_of s late.bodies)
 run-moves s n zero early late from to =
     let e : early ≡ late = same_Some early late (sym from ∙ (rw add-zero at to)) in
-    subst (λ (x : State). HasDrifted s 0 (centres_of s early.bodies) (centres_of s x.bodies)) e (drifts-none s (centres_of s early.bodies))
+    subst (λ (x : State). HasDrifted s 0 (centers_of s early.bodies) (centers_of s x.bodies)) e (drifts-none s (centers_of s early.bodies))
 run-moves s n (suc k) early late from to =
     let e : n + suc k ≡ suc (n + k) = omega arith in
     let p = has_before s (n + k) late (subst (λ m. plain_at s m ≡ Some late) e to) in
-    let so_far : HasDrifted s k (centres_of s early.bodies) (centres_of s p.before.bodies) = run-moves s n k early p.before from p.plain in
-    let more : HasDrifted s 1 (centres_of s p.before.bodies) (centres_of s late.bodies) = step-moves s p.before late (plain-count s (n + k) p.before p.plain) p.step in
+    let so_far : HasDrifted s k (centers_of s early.bodies) (centers_of s p.before.bodies) = run-moves s n k early p.before from p.plain in
+    let more : HasDrifted s 1 (centers_of s p.before.bodies) (centers_of s late.bodies) = step-moves s p.before late (plain-count s (n + k) p.before p.plain) p.step in
     let one : k + 1 ≡ suc k = add-one k in
-    subst (λ m. HasDrifted s m (centres_of s early.bodies) (centres_of s late.bodies)) one
-    (drifts-join s k 1 (centres_of s early.bodies) (centres_of s p.before.bodies) (centres_of s late.bodies) so_far more)
+    subst (λ m. HasDrifted s m (centers_of s early.bodies) (centers_of s late.bodies)) one
+    (drifts-join s k 1 (centers_of s early.bodies) (centers_of s p.before.bodies) (centers_of s late.bodies) so_far more)
 
 -- along the plain run of a sound scene each sphere moves no farther than it may in so many steps
 pub run-drifts : (s : SceneValue) (n k : ℕ) (early late : State) → IsSound s → plain_at s n ≡ Some early → plain_at s (n + k) ≡ Some late →
-    HasDrifted s k (centres_of s early.bodies) (centres_of s late.bodies)
+    HasDrifted s k (centers_of s early.bodies) (centers_of s late.bodies)
 run-drifts s n k early late sound from to = run-moves s n k early late from to

@@ -8,7 +8,7 @@ use Rattle.dem_num.specs.Vectors.{widened, Within}
 use Rattle.dem_model.specs.SceneValue.{SceneValue}
 use Rattle.dem_model.specs.Sound.{IsSound}
 use Rattle.dem_model.specs.Carry.{kept_of, carried, Agrees}
-use Rattle.dem_model.specs.Centres.{centres_of}
+use Rattle.dem_model.specs.Centers.{centers_of}
 use Rattle.dem_model.specs.Motion.{AreSound, IsPair}
 use Rattle.dem_model.specs.Near.{near_of}
 use Rattle.dem_model.specs.Pairs.{all_pairs}
@@ -51,18 +51,18 @@ no_pairs : (s : SceneValue) → ArePairs s []
 no_pairs s = record { each = All-nil (IsPair s); few = λ c. unfold pair_count in omega arith }
 
 -- the displacements of small pushes are within their range
-fresh-within : (s : SceneValue) (bodies : List Body) (centres : List Vec3) (held : List Held) (ps : List Pair) (loads : List Load) (fresh : List (Option Vec3)) →
-    length ps ≤ length fresh → HaveMet s bodies centres held ps loads fresh → All IsStored (take (length ps) fresh)
-fresh-within s bodies centres held ps loads fresh room met =
-    let stored : AreStored (kept_of ps fresh) = subst AreStored (sym met.kept) (stored_from (meetings s bodies centres held ps) met.small) in
+fresh-within : (s : SceneValue) (bodies : List Body) (centers : List Vec3) (held : List Held) (ps : List Pair) (loads : List Load) (fresh : List (Option Vec3)) →
+    length ps ≤ length fresh → HaveMet s bodies centers held ps loads fresh → All IsStored (take (length ps) fresh)
+fresh-within s bodies centers held ps loads fresh room met =
+    let stored : AreStored (kept_of ps fresh) = subst AreStored (sym met.kept) (stored_from (meetings s bodies centers held ps) met.small) in
     stored-within ps (take (length ps) fresh) (length-take-le (length ps) fresh room) (subst AreStored (sym (kept_of-take ps fresh)) stored)
 
 -- after a step
-pub stepper-next : (s : SceneValue) (drift step : ℕ) (listed : Bool) (bodies next : List Body) (list : Pairs) (entries fresh : List (Option Vec3)) (held : List Held) (centres : List Vec3) (loads : List Load) →
+pub stepper-next : (s : SceneValue) (drift step : ℕ) (listed : Bool) (bodies next : List Body) (list : Pairs) (entries fresh : List (Option Vec3)) (held : List Held) (centers : List Vec3) (loads : List Load) →
     IsStepper s drift step listed bodies (contacts_of list entries) → step < s.steps → step_of s (state_at s step) ≡ Ok (next_state (step + 1) next (kept_of list.pairs fresh)) →
-    AreSound s next → length list.pairs ≤ length fresh → HaveMet s bodies centres held list.pairs loads fresh →
+    AreSound s next → length list.pairs ≤ length fresh → HaveMet s bodies centers held list.pairs loads fresh →
     IsStepper s drift (step + 1) listed next (contacts_of list (take (length list.pairs) fresh))
-stepper-next s drift step listed bodies next list entries fresh held centres loads h lt made sound room met =
+stepper-next s drift step listed bodies next list entries fresh held centers loads h lt made sound room met =
     let plain : plain_at s (step + 1) ≡ Some (next_state (step + 1) next (kept_of list.pairs fresh)) =
     plain-after s step (state_at s step) (next_state (step + 1) next (kept_of list.pairs fresh)) h.plain lt made in
     let is : state_at s (step + 1) ≡ next_state (step + 1) next (kept_of list.pairs fresh) = state_at-is s (step + 1) (next_state (step + 1) next (kept_of list.pairs fresh)) plain in
@@ -76,7 +76,7 @@ stepper-next s drift step listed bodies next list entries fresh held centres loa
         pairs = h.contacts_are.pairs;
         ascends = h.contacts_are.ascends;
         as_many = length-take-le (length list.pairs) fresh room;
-        stored = fresh-within s bodies centres held list.pairs loads fresh room met;
+        stored = fresh-within s bodies centers held list.pairs loads fresh room met;
       };
       agrees = agrees-same s (state_at s (step + 1)) (kept_of list.pairs (take (length list.pairs) fresh)) (kept_of-take list.pairs fresh ∙ ap (λ (x : State). x.held) (sym is));
       only = only-same (state_at s (step + 1)) (kept_of list.pairs (take (length list.pairs) fresh)) (kept_of-take list.pairs fresh ∙ ap (λ (x : State). x.held) (sym is));
@@ -106,7 +106,7 @@ stepper-adopts s drift step listed bodies old new entries h near ascends past yo
     as_many = length-carried old.pairs entries new.pairs;
     stored = carried-within old.pairs entries new.pairs h.contacts_are.stored;
   };
-  agrees = agrees-carried s drift (state_at s step) (centres_of s (state_at s new.from).bodies) old.pairs new.pairs entries
+  agrees = agrees-carried s drift (state_at s step) (centers_of s (state_at s new.from).bodies) old.pairs new.pairs entries
       (list-covers s drift step new h.scene h.plain near past young) near.pairs h.agrees;
   only = only-carried (state_at s step) old.pairs new.pairs entries h.only;
   near = λ e. near;
@@ -150,8 +150,8 @@ pub list-of-run : (s : SceneValue) (drift : ℕ) (snap : Snapshot) (list : Pairs
 list-of-run s drift snap list shown near = record {
   there = subst (λ n. plain_at s n ≡ Some (state_at s n)) (sym near.from) shown.there;
   pairs = near.pairs
-      ∙ ap (λ (bs : List Body). near_of s drift (centres_of s bs)) shown.bodies
-      ∙ ap (λ n. near_of s drift (centres_of s (state_at s n).bodies)) (sym near.from);
+      ∙ ap (λ (bs : List Body). near_of s drift (centers_of s bs)) shown.bodies
+      ∙ ap (λ n. near_of s drift (centers_of s (state_at s n).bodies)) (sym near.from);
 }
 
 -- the number and the bodies of the state where a run stands are a snapshot of the plain run

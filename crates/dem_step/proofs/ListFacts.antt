@@ -11,7 +11,7 @@ use Rattle.dem_num.specs.Vectors.{widened, narrowed, no_vector, Within}
 use Rattle.dem_model.specs.SceneValue.{SceneValue}
 use Rattle.dem_model.specs.Sound.{IsSound}
 use Rattle.dem_model.specs.Pairs.{all_pairs}
-use Rattle.dem_model.specs.Centres.{centres_of, touch_of}
+use Rattle.dem_model.specs.Centers.{centers_of, touch_of}
 use Rattle.dem_model.specs.Motion.{IsPair}
 use Rattle.dem_model.specs.Near.{near, near_of, Covers}
 use Rattle.dem_model.specs.Carry.{held_of, kept_of, carried, Agrees}
@@ -211,42 +211,42 @@ none_there None b follows n = refl
 none_there (Some x) b follows n = let yes : b ≡ true = follows refl in absurd (cc)
 
 -- a pair that doesn't touch has no meeting
-meeting-none : (s : SceneValue) (bodies : List Body) (centres : List Vec3) (p : Pair) (h : Option Vec3) → touch_of s centres p ≡ None → meeting s bodies centres p h ≡ None
+meeting-none : (s : SceneValue) (bodies : List Body) (centers : List Vec3) (p : Pair) (h : Option Vec3) → touch_of s centers p ≡ None → meeting s bodies centers p h ≡ None
 unfolding meeting
-meeting-none s bodies centres p h e = rw e refl
+meeting-none s bodies centers p h e = rw e refl
 
 -- the near pairs have all the meetings, where they cover those that touch
-pub meetings-near : (s : SceneValue) (drift : ℕ) (bodies : List Body) (from centres : List Vec3) (held : List Held) → Covers s drift from centres →
-    meetings s bodies centres held (near_of s drift from) ≡ meetings s bodies centres held (all_pairs s)
+pub meetings-near : (s : SceneValue) (drift : ℕ) (bodies : List Body) (from centers : List Vec3) (held : List Held) → Covers s drift from centers →
+    meetings s bodies centers held (near_of s drift from) ≡ meetings s bodies centers held (all_pairs s)
 unfolding meetings near_of
-meetings-near s drift bodies from centres held covers =
-    filter_map-filter (λ (p : Pair). meeting s bodies centres p (held_at held p)) (near s drift from) (all_pairs s)
+meetings-near s drift bodies from centers held covers =
+    filter_map-filter (λ (p : Pair). meeting s bodies centers p (held_at held p)) (near s drift from) (all_pairs s)
     (λ k d lt far.
     let p : Pair = get_or (all_pairs s) k d in
-    meeting-none s bodies centres p (held_at held p) (none_there (touch_of s centres p) (near s drift from p) (covers k d lt) far))
+    meeting-none s bodies centers p (held_at held p) (none_there (touch_of s centers p) (near s drift from p) (covers k d lt) far))
 
 -- a meeting asks what is held of its pair where it touches alone
-meeting-agree : (s : SceneValue) (bodies : List Body) (centres : List Vec3) (p : Pair) (h k : Option Vec3) (o : Option Touch) → touch_of s centres p ≡ o →
-    (is_some (touch_of s centres p) ≡ true → h ≡ k) → meeting s bodies centres p h ≡ meeting s bodies centres p k
-meeting-agree s bodies centres p h k None e agree = meeting-none s bodies centres p h e ∙ sym (meeting-none s bodies centres p k e)
-meeting-agree s bodies centres p h k (Some t) e agree = ap (meeting s bodies centres p) (agree (ap is_some e))
+meeting-agree : (s : SceneValue) (bodies : List Body) (centers : List Vec3) (p : Pair) (h k : Option Vec3) (o : Option Touch) → touch_of s centers p ≡ o →
+    (is_some (touch_of s centers p) ≡ true → h ≡ k) → meeting s bodies centers p h ≡ meeting s bodies centers p k
+meeting-agree s bodies centers p h k None e agree = meeting-none s bodies centers p h e ∙ sym (meeting-none s bodies centers p k e)
+meeting-agree s bodies centers p h k (Some t) e agree = ap (meeting s bodies centers p) (agree (ap is_some e))
 
 -- the meetings are the same where the same is held of each pair that touches
-pub meetings-agree : (s : SceneValue) (bodies : List Body) (centres : List Vec3) (held other : List Held) (ps : List Pair) →
-    All (λ p. is_some (touch_of s centres p) ≡ true → held_at held p ≡ held_at other p) ps →
-    meetings s bodies centres held ps ≡ meetings s bodies centres other ps
+pub meetings-agree : (s : SceneValue) (bodies : List Body) (centers : List Vec3) (held other : List Held) (ps : List Pair) →
+    All (λ p. is_some (touch_of s centers p) ≡ true → held_at held p ≡ held_at other p) ps →
+    meetings s bodies centers held ps ≡ meetings s bodies centers other ps
 unfolding meetings
-meetings-agree s bodies centres held other ps agree =
-    filter_map-agree (λ (p : Pair). meeting s bodies centres p (held_at held p)) (λ (p : Pair). meeting s bodies centres p (held_at other p)) ps
+meetings-agree s bodies centers held other ps agree =
+    filter_map-agree (λ (p : Pair). meeting s bodies centers p (held_at held p)) (λ (p : Pair). meeting s bodies centers p (held_at other p)) ps
     (λ k d lt.
     let p : Pair = get_or ps k d in
-    meeting-agree s bodies centres p (held_at held p) (held_at other p) (touch_of s centres p) refl (agree k d lt))
+    meeting-agree s bodies centers p (held_at held p) (held_at other p) (touch_of s centers p) refl (agree k d lt))
 
 -- what a meeting leaves is held of its pair
-pub entry-held : (s : SceneValue) (bodies : List Body) (centres : List Vec3) (p : Pair) (h : Option Vec3) →
-    option_map (held_of p) (displacement_of (meeting s bodies centres p h)) ≡ option_map held_in (meeting s bodies centres p h)
+pub entry-held : (s : SceneValue) (bodies : List Body) (centers : List Vec3) (p : Pair) (h : Option Vec3) →
+    option_map (held_of p) (displacement_of (meeting s bodies centers p h)) ≡ option_map held_in (meeting s bodies centers p h)
 unfolding meeting held_in
-entry-held s bodies centres p h = by (touch_of s centres p)
+entry-held s bodies centers p h = by (touch_of s centers p)
   where
     by : (o : Option Touch) →
         option_map (held_of p) (displacement_of (option_map (λ (t : Touch). record { pair = p; push = push_of s bodies p t (unwrap_or h (narrowed no_vector)) }) o)) ≡
@@ -272,9 +272,9 @@ contains_passing q (x ∷ ps) p (suc k, l, e) is =
     ]
 
 -- a near pair is in the list of the near pairs
-pub near-contains : (s : SceneValue) (drift : ℕ) (centres : List Vec3) (p : Pair) → Contains (all_pairs s) p → near s drift centres p ≡ true → Contains (near_of s drift centres) p
+pub near-contains : (s : SceneValue) (drift : ℕ) (centers : List Vec3) (p : Pair) → Contains (all_pairs s) p → near s drift centers p ≡ true → Contains (near_of s drift centers) p
 unfolding near_of
-near-contains s drift centres p there is = contains_passing (near s drift centres) (all_pairs s) p there is
+near-contains s drift centers p there is = contains_passing (near s drift centers) (all_pairs s) p there is
 
 -- ---- how many pairs a clump has a part in
 
@@ -296,18 +296,18 @@ pair_count-filter s c q (p ∷ ps) =
     ]
 
 -- the near pairs are pairs, and few
-pub near-pairs : (s : SceneValue) (drift : ℕ) (centres : List Vec3) → IsSound s → ArePairs s (near_of s drift centres)
+pub near-pairs : (s : SceneValue) (drift : ℕ) (centers : List Vec3) → IsSound s → ArePairs s (near_of s drift centers)
 unfolding near_of
-near-pairs s drift centres sound = record {
-  each = All-filter (near s drift centres) (IsPair s) (all_pairs s) (all_pairs-pairs s);
-  few = λ c. omega (arith, pair_count-filter s c (near s drift centres) (all_pairs s), pair_count-all s c sound);
+near-pairs s drift centers sound = record {
+  each = All-filter (near s drift centers) (IsPair s) (all_pairs s) (all_pairs-pairs s);
+  few = λ c. omega (arith, pair_count-filter s c (near s drift centers) (all_pairs s), pair_count-all s c sound);
 }
 
 -- ---- a new list
 
 -- what agrees with a state before it is carried to a list that covers each touch agrees after it
 pub agrees-carried : (s : SceneValue) (drift : ℕ) (st : State) (from : List Vec3) (ps new : List Pair) (es : List (Option Vec3)) →
-    Covers s drift from (centres_of s st.bodies) → new ≡ near_of s drift from → Agrees s st (kept_of ps es) → Agrees s st (kept_of new (carried ps es new))
+    Covers s drift from (centers_of s st.bodies) → new ≡ near_of s drift from → Agrees s st (kept_of ps es) → Agrees s st (kept_of new (carried ps es new))
 agrees-carried s drift st from ps new es covers is agrees = λ k d lt touches.
     let p : Pair = get_or (all_pairs s) k d in
     let there : Contains (near_of s drift from) p = near-contains s drift from p (Contains-get_or (all_pairs s) k d lt) (covers k d lt touches) in

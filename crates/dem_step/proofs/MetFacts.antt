@@ -24,10 +24,10 @@ use Rattle.dem_step.proofs.RoomFacts.{take-next}
 use Rattle.dem_step.proofs.ListFacts.{kept_of-set, pair_count-take, entry-held}
 
 -- nothing has met
-pub HaveMet-none : (s : SceneValue) (bodies : List Body) (centres : List Vec3) (held : List Held) (n : ℕ) (loads : List Load) (fresh : List (Option Vec3)) →
-    loads ≡ replicate n no_load → n ≡ length s.clumps → HaveMet s bodies centres held [] loads fresh
+pub HaveMet-none : (s : SceneValue) (bodies : List Body) (centers : List Vec3) (held : List Held) (n : ℕ) (loads : List Load) (fresh : List (Option Vec3)) →
+    loads ≡ replicate n no_load → n ≡ length s.clumps → HaveMet s bodies centers held [] loads fresh
 unfolding meetings loads_of kept_of
-HaveMet-none s bodies centres held n loads fresh e count = record {
+HaveMet-none s bodies centers held n loads fresh e count = record {
   sums = e ∙ ap (λ k. replicate k no_load) count ∙ loads_none s (length s.clumps);
   kept = refl;
   small = All-nil (λ (m : Meeting). IsSmall m.push);
@@ -49,41 +49,41 @@ small-more ms None all small = subst (λ xs. All (λ (m : Meeting). IsSmall m.pu
 small-more ms (Some m) all small = All-push (λ (m : Meeting). IsSmall m.push) ms m all small
 
 -- one more pair has met
-pub HaveMet-more : (s : SceneValue) (bodies : List Body) (centres : List Vec3) (held : List Held) (ps : List Pair) (i : ℕ) (p : Pair) (h : Option Vec3)
+pub HaveMet-more : (s : SceneValue) (bodies : List Body) (centers : List Vec3) (held : List Held) (ps : List Pair) (i : ℕ) (p : Pair) (h : Option Vec3)
     (old new : List Load) (fresh : List (Option Vec3)) (e : Option Vec3) →
     slice_get ps i ≡ Some p → held_at held p ≡ h → i < length fresh →
-    new ≡ loads_after s old (meeting s bodies centres p h) → e ≡ displacement_of (meeting s bodies centres p h) → IsSmallMeeting (meeting s bodies centres p h) →
-    HaveMet s bodies centres held (take i ps) old fresh → HaveMet s bodies centres held (take (i + 1) ps) new (slice_set fresh i e)
-HaveMet-more s bodies centres held ps i p h old new fresh e there is room loads entry small met =
+    new ≡ loads_after s old (meeting s bodies centers p h) → e ≡ displacement_of (meeting s bodies centers p h) → IsSmallMeeting (meeting s bodies centers p h) →
+    HaveMet s bodies centers held (take i ps) old fresh → HaveMet s bodies centers held (take (i + 1) ps) new (slice_set fresh i e)
+HaveMet-more s bodies centers held ps i p h old new fresh e there is room loads entry small met =
     let lt : i < length ps = slice_get_within ps i p there in
-    let o : Option Meeting = meeting s bodies centres p h in
-    let ms : List Meeting = meetings s bodies centres held (take i ps) in
-    let same : cons_option (meeting s bodies centres p (held_at held p)) [] ≡ cons_option (meeting s bodies centres p h) [] = ap (λ x. cons_option (meeting s bodies centres p x) []) is in
-    let more : meetings s bodies centres held (take i ps) ++ cons_option (meeting s bodies centres p h) [] ≡ meetings s bodies centres held (take (i + 1) ps) =
-    ap (λ xs. meetings s bodies centres held (take i ps) ++ xs) (sym same)
-    ∙ sym (meetings-push s bodies centres held (take i ps) p)
-    ∙ ap (meetings s bodies centres held) (sym (take-next ps i p there)) in
+    let o : Option Meeting = meeting s bodies centers p h in
+    let ms : List Meeting = meetings s bodies centers held (take i ps) in
+    let same : cons_option (meeting s bodies centers p (held_at held p)) [] ≡ cons_option (meeting s bodies centers p h) [] = ap (λ x. cons_option (meeting s bodies centers p x) []) is in
+    let more : meetings s bodies centers held (take i ps) ++ cons_option (meeting s bodies centers p h) [] ≡ meetings s bodies centers held (take (i + 1) ps) =
+    ap (λ xs. meetings s bodies centers held (take i ps) ++ xs) (sym same)
+    ∙ sym (meetings-push s bodies centers held (take i ps) p)
+    ∙ ap (meetings s bodies centers held) (sym (take-next ps i p there)) in
     let count : length (take i ps) ≡ i = length-take-le i ps (omega arith) in
     record {
-      sums = loads ∙ ap (λ ws. loads_after s ws (meeting s bodies centres p h)) met.sums ∙ loads_after-is s (meetings s bodies centres held (take i ps)) (meeting s bodies centres p h) ∙ ap (loads_of s) more;
+      sums = loads ∙ ap (λ ws. loads_after s ws (meeting s bodies centers p h)) met.sums ∙ loads_after-is s (meetings s bodies centers held (take i ps)) (meeting s bodies centers p h) ∙ ap (loads_of s) more;
       kept =
           ap (λ qs. kept_of qs (slice_set fresh i e)) (take-next ps i p there)
           ∙ kept_of-set (take i ps) fresh i p e count room
           ∙ ap (λ xs. xs ++ cons_option (option_map (held_of p) e) []) met.kept
-          ∙ ap (λ x. map held_in (meetings s bodies centres held (take i ps)) ++ cons_option (option_map (held_of p) x) []) entry
-          ∙ ap (λ x. map held_in (meetings s bodies centres held (take i ps)) ++ cons_option x []) (entry-held s bodies centres p h)
-          ∙ sym (held-more (meetings s bodies centres held (take i ps)) (meeting s bodies centres p h))
+          ∙ ap (λ x. map held_in (meetings s bodies centers held (take i ps)) ++ cons_option (option_map (held_of p) x) []) entry
+          ∙ ap (λ x. map held_in (meetings s bodies centers held (take i ps)) ++ cons_option x []) (entry-held s bodies centers p h)
+          ∙ sym (held-more (meetings s bodies centers held (take i ps)) (meeting s bodies centers p h))
           ∙ ap (map held_in) more;
-      small = subst (λ xs. All (λ (m : Meeting). IsSmall m.push) xs) more (small-more (meetings s bodies centres held (take i ps)) (meeting s bodies centres p h) met.small small);
+      small = subst (λ xs. All (λ (m : Meeting). IsSmall m.push) xs) more (small-more (meetings s bodies centers held (take i ps)) (meeting s bodies centers p h) met.small small);
     }
 
 -- the loads at any place of the list are within the bounds
-pub loads-met : (s : SceneValue) (bodies : List Body) (centres : List Vec3) (held : List Held) (ps : List Pair) (i : ℕ) (loads : List Load) (fresh : List (Option Vec3)) →
-    ArePairs s ps → HaveMet s bodies centres held (take i ps) loads fresh → AreLoads s loads
-loads-met s bodies centres held ps i loads fresh pairs met =
-    sums-within s bodies centres held (take i ps) loads (λ c. omega (arith, pair_count-take s c i ps, pairs.few c)) met.sums met.small
+pub loads-met : (s : SceneValue) (bodies : List Body) (centers : List Vec3) (held : List Held) (ps : List Pair) (i : ℕ) (loads : List Load) (fresh : List (Option Vec3)) →
+    ArePairs s ps → HaveMet s bodies centers held (take i ps) loads fresh → AreLoads s loads
+loads-met s bodies centers held ps i loads fresh pairs met =
+    sums-within s bodies centers held (take i ps) loads (λ c. omega (arith, pair_count-take s c i ps, pairs.few c)) met.sums met.small
 
 -- the loads of the whole list are within the bounds
-pub loads-met-all : (s : SceneValue) (bodies : List Body) (centres : List Vec3) (held : List Held) (ps : List Pair) (loads : List Load) (fresh : List (Option Vec3)) →
-    ArePairs s ps → HaveMet s bodies centres held ps loads fresh → AreLoads s loads
-loads-met-all s bodies centres held ps loads fresh pairs met = sums-within s bodies centres held ps loads pairs.few met.sums met.small
+pub loads-met-all : (s : SceneValue) (bodies : List Body) (centers : List Vec3) (held : List Held) (ps : List Pair) (loads : List Load) (fresh : List (Option Vec3)) →
+    ArePairs s ps → HaveMet s bodies centers held ps loads fresh → AreLoads s loads
+loads-met-all s bodies centers held ps loads fresh pairs met = sums-within s bodies centers held ps loads pairs.few met.sums met.small

@@ -24,9 +24,9 @@ use Rattle.dem_step.specs.declared.spheres.Spheres.{Spheres}
 abbrev pub from_of : Bool → ℕ → Option ℕ
 from_of listed from = if listed then Some from else None
 
--- there is a centre and a side for each sphere
+-- there is a center and a side for each sphere
 pub record HasPlaces (s : SceneValue) (spheres : Spheres) : Type 0 where
-  pub centres : length spheres.centers ≡ sphere_count s
+  pub centers : length spheres.centers ≡ sphere_count s
   pub sides : length spheres.sides ≡ sphere_count s
 
 -- what a run on lists keeps: it stands at a state of the plain run, with its bodies; its list is of that run, and has the displacements that the next step needs, and no other
@@ -42,7 +42,7 @@ pub record IsStepper (s : SceneValue) (drift step : ℕ) (listed : Bool) (bodies
   pub near : listed ≡ true → IsListOfRun s drift contacts.list
   pub past : listed ≡ true → contacts.list.from ≤ step
 
--- the room that was made for a step: a centre and a side per sphere, a load and a body per clump, an entry per pair of the list
+-- the room that was made for a step: a center and a side per sphere, a load and a body per clump, an entry per pair of the list
 pub record HasRoom (s : SceneValue) (spheres : Spheres) (loads : List Load) (next : List Body) (pairs : List Pair) (fresh : List (Option Vec3)) : Type 0 where
   pub places : HasPlaces s spheres
   pub load_each : length loads ≡ length s.clumps
@@ -63,7 +63,7 @@ abbrev pub IsSmallMeeting : Option Meeting → Type 0
 IsSmallMeeting o = IfSome o (λ (m : Meeting). IsSmall m.push)
 
 -- the loads are the sums over the meetings of these pairs, the entries have their displacements, and each push is small
-pub record HaveMet (s : SceneValue) (bodies : List Body) (centres : List Vec3) (held : List Held) (ps : List Pair) (loads : List Load) (fresh : List (Option Vec3)) : Type 0 where
-  pub sums : loads ≡ loads_of s (meetings s bodies centres held ps)
-  pub kept : kept_of ps fresh ≡ map held_in (meetings s bodies centres held ps)
-  pub small : All (λ (m : Meeting). IsSmall m.push) (meetings s bodies centres held ps)
+pub record HaveMet (s : SceneValue) (bodies : List Body) (centers : List Vec3) (held : List Held) (ps : List Pair) (loads : List Load) (fresh : List (Option Vec3)) : Type 0 where
+  pub sums : loads ≡ loads_of s (meetings s bodies centers held ps)
+  pub kept : kept_of ps fresh ≡ map held_in (meetings s bodies centers held ps)
+  pub small : All (λ (m : Meeting). IsSmall m.push) (meetings s bodies centers held ps)

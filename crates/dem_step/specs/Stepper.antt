@@ -3,7 +3,7 @@ use Rattle.std.specs.Prelude.{ℕ, ◌≡◌, ◌+◌, ◌<◌, ◌≤◌, [], O
 use Rattle.std.specs.Option.{IsSomeAnd}
 use Rattle.dem_model.specs.SceneValue.{SceneValue}
 use Rattle.dem_model.specs.Carry.{carried}
-use Rattle.dem_model.specs.Centres.{centres_of}
+use Rattle.dem_model.specs.Centers.{centers_of}
 use Rattle.dem_model.specs.Motion.{AreSound}
 use Rattle.dem_model.specs.Near.{near_of}
 use Rattle.dem_model.specs.Plain.{first_state, plain_at}
@@ -36,7 +36,7 @@ pub record IsSnapshotOfRun (s : SceneValue) (snap : Snapshot) : Type 0 where
 -- a list is of the plain run: the run reaches the list's step, and the pairs are those that are near in the state there
 pub record IsListOfRun (s : SceneValue) (drift : ℕ) (list : Pairs) : Type 0 where
   pub there : plain_at s list.from ≡ Some (state_at s list.from)
-  pub pairs : list.pairs ≡ near_of s drift (centres_of s (state_at s list.from).bodies)
+  pub pairs : list.pairs ≡ near_of s drift (centers_of s (state_at s list.from).bodies)
 
 -- a list from this step may be in use where a run stands: it isn't from later, and not older than the drift limit
 pub record IsInTime (run : Stepper) (from : ℕ) : Type 0 where

@@ -33,7 +33,7 @@ pub fn meet_all<L: Ledger>(
 )
     requires loads { length loads.old ≡ length shapes.now.clumps }
     requires fresh { length contacts.now.list.pairs ≤ length fresh.old }
-    requires centres { AreInside shapes.now spheres.now.centers }
+    requires centers { AreInside shapes.now spheres.now.centers }
     requires sides { AreSides shapes.now bodies.now spheres.now.sides }
     requires pairs { ArePairs shapes.now contacts.now.list.pairs }
     requires within { All IsStored contacts.now.entries }
@@ -71,7 +71,7 @@ fn meet<L: Ledger>(
     tests: &mut Steps<L>,
 ) -> Option<Vec3>
     requires pair { IsPair shapes.now pair }
-    requires centres { AreInside shapes.now spheres.now.centers }
+    requires centers { AreInside shapes.now spheres.now.centers }
     requires sides { AreSides shapes.now bodies.now spheres.now.sides }
     requires held { IfSome held (λ h. Within (widened h) (2 ^ 40)) }
     requires loads { AreLoads shapes.now loads.old }
@@ -95,7 +95,7 @@ fn push_of<L: Ledger>(
     tests: &mut Steps<L>,
 ) -> Option<Push>
     requires pair { IsPair shapes.now pair }
-    requires centres { AreInside shapes.now spheres.now.centers }
+    requires centers { AreInside shapes.now spheres.now.centers }
     requires sides { AreSides shapes.now bodies.now spheres.now.sides }
     requires held { IfSome held (λ h. Within (widened h) (2 ^ 40)) }
     ensures value { option_map (meeting_with pair) result ≡ meeting shapes.now bodies.now spheres.now.centers pair held }

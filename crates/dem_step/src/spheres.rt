@@ -1,7 +1,7 @@
 //! Where all spheres are in a state, and how they move: made once a step.
 
 ghost use Rattle.std.specs.Prelude.{◌≡◌, IfOk};
-ghost use Rattle.dem_model.specs.Centres.{centres_of};
+ghost use Rattle.dem_model.specs.Centers.{centers_of};
 ghost use Rattle.dem_model.specs.Motion.{AreSound};
 ghost use Rattle.dem_force.specs.Sides.{AreSides};
 ghost use Rattle.dem_step.specs.Inside.{HasPlaces};
@@ -11,7 +11,7 @@ use dem_model::{Body, OutOfMemory};
 use dem_shape::{Centers, Shapes};
 use std::alloc::Global;
 
-/// A centre and a side per sphere.
+/// A center and a side per sphere.
 #[derive(Drop)]
 pub struct Spheres {
     pub centers: Centers,
@@ -33,7 +33,7 @@ impl Spheres {
     pub fn fill(&mut self, shapes: &Shapes, bodies: &[Body])
         requires made { HasPlaces shapes.now self.old }
         requires sound { AreSound shapes.now bodies.now }
-        ensures centres { self.new.centers ≡ centres_of shapes.now bodies.now }
+        ensures centers { self.new.centers ≡ centers_of shapes.now bodies.now }
         ensures sides { AreSides shapes.now bodies.now self.new.sides }
     {
         self.centers.fill(shapes, bodies);

@@ -5,7 +5,7 @@
 //! Not here: the motion of a body (dem_force).
 #![tactic(auto)]
 
-mod reach;
+mod swing;
 mod rows;
 mod stepping;
 mod still;
@@ -14,7 +14,7 @@ mod tests;
 mod turning;
 
 pub use dem_num::Rows;
-pub use reach::{arm, swing_limit};
+pub use swing::{arm, swing_limit};
 pub use rows::matrix;
 pub use stepping::turn_step;
 pub use still::is_zero;

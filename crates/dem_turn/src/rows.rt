@@ -10,7 +10,7 @@ ghost use Rattle.dem_num.specs.Rotations.{
   axial,
   mixed_sum,
   mixed_difference,
-  entry_of,
+  matrix_entry_of,
   matrix_of,
 };
 
@@ -24,68 +24,68 @@ pub fn matrix(q: Quat) -> Rows
     ensures size { EntriesWithin result (2 ^ 30) }
 {
     let norm2 = quat_norm2(q) as u64;
-    let near = reciprocal(norm2);
+    let inverse = reciprocal(norm2);
     Rows {
-        x: row_x(q, norm2, near),
-        y: row_y(q, norm2, near),
-        z: row_z(q, norm2, near),
+        x: row_x(q, norm2, inverse),
+        y: row_y(q, norm2, inverse),
+        z: row_z(q, norm2, inverse),
     }
 }
 
 /// The first row of the matrix.
 #[tactic(auto, unfolding(dem_num::specs::Rotations::matrix_of, dem_num::specs::Rotations::quat_norm2_of))]
-fn row_x(q: Quat, norm2: u64, near: u64) -> Vec3
+fn row_x(q: Quat, norm2: u64, inverse: u64) -> Vec3
     requires orientation { IsOrientation q }
     requires length { norm2 ≡ quat_norm2_of q }
     ensures value { result ≡ (matrix_of q).x }
     ensures size { Within (widened result) (2 ^ 30) }
 {
     Vec3 {
-        x: entry(axial_form(q.a, q.b, q.c, q.d), norm2, near),
-        y: entry(mixed_difference_form(q.b, q.c, q.a, q.d), norm2, near),
-        z: entry(mixed_sum_form(q.b, q.d, q.a, q.c), norm2, near),
+        x: entry(axial_form(q.a, q.b, q.c, q.d), norm2, inverse),
+        y: entry(mixed_difference_form(q.b, q.c, q.a, q.d), norm2, inverse),
+        z: entry(mixed_sum_form(q.b, q.d, q.a, q.c), norm2, inverse),
     }
 }
 
 /// The second row of the matrix.
 #[tactic(auto, unfolding(dem_num::specs::Rotations::matrix_of, dem_num::specs::Rotations::quat_norm2_of))]
-fn row_y(q: Quat, norm2: u64, near: u64) -> Vec3
+fn row_y(q: Quat, norm2: u64, inverse: u64) -> Vec3
     requires orientation { IsOrientation q }
     requires length { norm2 ≡ quat_norm2_of q }
     ensures value { result ≡ (matrix_of q).y }
     ensures size { Within (widened result) (2 ^ 30) }
 {
     Vec3 {
-        x: entry(mixed_sum_form(q.b, q.c, q.a, q.d), norm2, near),
-        y: entry(axial_form(q.a, q.c, q.b, q.d), norm2, near),
-        z: entry(mixed_difference_form(q.c, q.d, q.a, q.b), norm2, near),
+        x: entry(mixed_sum_form(q.b, q.c, q.a, q.d), norm2, inverse),
+        y: entry(axial_form(q.a, q.c, q.b, q.d), norm2, inverse),
+        z: entry(mixed_difference_form(q.c, q.d, q.a, q.b), norm2, inverse),
     }
 }
 
 /// The third row of the matrix.
 #[tactic(auto, unfolding(dem_num::specs::Rotations::matrix_of, dem_num::specs::Rotations::quat_norm2_of))]
-fn row_z(q: Quat, norm2: u64, near: u64) -> Vec3
+fn row_z(q: Quat, norm2: u64, inverse: u64) -> Vec3
     requires orientation { IsOrientation q }
     requires length { norm2 ≡ quat_norm2_of q }
     ensures value { result ≡ (matrix_of q).z }
     ensures size { Within (widened result) (2 ^ 30) }
 {
     Vec3 {
-        x: entry(mixed_difference_form(q.b, q.d, q.a, q.c), norm2, near),
-        y: entry(mixed_sum_form(q.c, q.d, q.a, q.b), norm2, near),
-        z: entry(axial_form(q.a, q.d, q.b, q.c), norm2, near),
+        x: entry(mixed_difference_form(q.b, q.d, q.a, q.c), norm2, inverse),
+        y: entry(mixed_sum_form(q.c, q.d, q.a, q.b), norm2, inverse),
+        z: entry(axial_form(q.a, q.d, q.b, q.c), norm2, inverse),
     }
 }
 
-/// An entry of the matrix: that of the quadratic form over the squared length, whose reciprocal is near this one.
-#[tactic(auto, unfolding(dem_num::specs::Rotations::entry_of))]
-fn entry(form: i128, norm2: u64, near: u64) -> i64
+/// An entry of the matrix: that of the quadratic form over the squared length, whose reciprocal is about `inverse`.
+#[tactic(auto, unfolding(dem_num::specs::Rotations::matrix_entry_of))]
+fn entry(form: i128, norm2: u64, inverse: u64) -> i64
     requires some { 0 < norm2 }
     requires part { AtMost form norm2 }
-    ensures value { result ≡ entry_of form norm2 }
+    ensures value { result ≡ matrix_entry_of form norm2 }
     ensures size { AtMost result (2 ^ 30) }
 {
-    share(form, norm2, near)
+    share(form, norm2, inverse)
 }
 
 /// The form of an entry on the diagonal.

@@ -110,12 +110,12 @@ fn unit(t: Quat) -> Quat
     ensures orientation { IsOrientation result }
 {
     let length = length(t);
-    let near = reciprocal(length);
+    let inverse = reciprocal(length);
     Quat {
-        a: share(t.a, length, near),
-        b: share(t.b, length, near),
-        c: share(t.c, length, near),
-        d: share(t.d, length, near),
+        a: share(t.a, length, inverse),
+        b: share(t.b, length, inverse),
+        c: share(t.c, length, inverse),
+        d: share(t.d, length, inverse),
     }
 }
 
@@ -131,13 +131,13 @@ fn length(t: Quat) -> u64
     root(quat_norm2(t))
 }
 
-/// A component's share of the length, times 2^30; the reciprocal of the length is near this one.
-fn share(component: i64, length: u64, near: u64) -> i64
+/// A component's share of the length, times 2^30; the reciprocal of the length is about `inverse`.
+fn share(component: i64, length: u64, inverse: u64) -> i64
     requires some { 0 < length }
     requires part { AtMost component length }
     ensures value { result ≡ quotient (pos (2 ^ 30) *ℤ component) (pos length) }
     ensures below { unsigned_abs result * length ≤ 2 ^ 30 * unsigned_abs component }
     ensures above { 2 ^ 30 * unsigned_abs component < (unsigned_abs result + 1) * length }
 {
-    dem_num::share(component as i128, length, near)
+    dem_num::share(component as i128, length, inverse)
 }

@@ -21,13 +21,13 @@ use crate::plane::offset_from;
 use dem_model::{Axis, MAX_OVERLAP, Touch, UNIT};
 use dem_num::{Vec3, Wide3, add, mul, narrow, negated, root, sub, tdiv};
 
-/// How a sphere inside a cylinder touches it, from its centre and its radius.
+/// How a sphere inside a cylinder touches it, from its center and its radius.
 #[tactic(auto, unfolding(dem_model::specs::Touch::cylinder_touch))]
-pub fn touch_cylinder(axis: Axis, at: Vec3, radius: u64, c: Vec3, r: u32) -> Option<Touch>
+pub fn cylinder_touch(axis: Axis, at: Vec3, radius: u64, c: Vec3, r: u32) -> Option<Touch>
     requires room { r < radius }
     requires radius_small { radius ≤ 2 ^ 35 }
     requires point_small { Within (widened at) (2 ^ 36) }
-    requires centre_small { Within (widened c) (2 ^ 36) }
+    requires center_small { Within (widened c) (2 ^ 36) }
     ensures value { result ≡ cylinder_touch axis at radius c r }
     ensures size { IfSome result IsTouch }
 {
@@ -42,11 +42,11 @@ pub fn touch_cylinder(axis: Axis, at: Vec3, radius: u64, c: Vec3, r: u32) -> Opt
 
 /// Whether a sphere inside a cylinder is near it, where it may move at most `extra` u per axis.
 #[tactic(auto, unfolding(dem_model::specs::Near::cylinder_near))]
-pub fn near_cylinder(axis: Axis, at: Vec3, radius: u64, c: Vec3, r: u32, extra: u64) -> bool
+pub fn cylinder_near(axis: Axis, at: Vec3, radius: u64, c: Vec3, r: u32, extra: u64) -> bool
     requires room { r < radius }
     requires radius_small { radius ≤ 2 ^ 35 }
     requires point_small { Within (widened at) (2 ^ 36) }
-    requires centre_small { Within (widened c) (2 ^ 36) }
+    requires center_small { Within (widened c) (2 ^ 36) }
     requires extra_small { extra ≤ 2 ^ 37 }
     ensures { result ≡ cylinder_near axis at radius c r extra }
 {
@@ -69,7 +69,7 @@ fn moved_out(component: i128, extra: u64) -> u128
 
 /// How a sphere touches a cylinder, from its offset from the cylinder's point, where it does.
 fn inside_touch(axis: Axis, offset: Wide3, radius: u64, r: u32) -> Touch
-    requires near { Within offset (2 ^ 37) }
+    requires close { Within offset (2 ^ 37) }
     requires radius_small { radius ≤ 2 ^ 35 }
     requires apart { 0 < distance2_of (first_across axis offset) (second_across axis offset) }
     ensures normal { result.n ≡ inward_normal axis offset }
@@ -89,7 +89,7 @@ fn inside_touch(axis: Axis, offset: Wide3, radius: u64, r: u32) -> Touch
 
 /// The distance from a cylinder's axis, rounded down.
 fn axis_distance(axis: Axis, offset: Wide3) -> u64
-    requires near { Within offset (2 ^ 37) }
+    requires close { Within offset (2 ^ 37) }
     requires apart { 0 < distance2_of (first_across axis offset) (second_across axis offset) }
     ensures value { result ≡ axis_distance_of axis offset }
     ensures positive { 0 < result }
@@ -164,7 +164,7 @@ fn squares(e: i128, f: i128) -> u128
 fn inward_part(e: i128, distance: u64) -> i64
     requires some { 0 < distance }
     requires part { unsigned_abs e ≤ distance }
-    requires near { distance ≤ 2 ^ 38 }
+    requires close { distance ≤ 2 ^ 38 }
     ensures value { result ≡ inward e distance }
     ensures size { AtMost result (2 ^ 30) }
 {
@@ -176,7 +176,7 @@ fn inward_part(e: i128, distance: u64) -> i64
 fn wide_inward(e: i128, distance: u64) -> i128
     requires some { 0 < distance }
     requires part { unsigned_abs e ≤ distance }
-    requires near { distance ≤ 2 ^ 38 }
+    requires close { distance ≤ 2 ^ 38 }
     ensures value { result ≡ inward e distance }
     ensures size { AtMost result (2 ^ 30) }
 {

@@ -85,7 +85,7 @@ fn wide_component(x: i64, length: u64) -> i128
 pub fn gap(at: Vec3, normal: Vec3, c: Vec3) -> i128
     requires normal_small { Within (widened normal) (2 ^ 30) }
     requires point_small { Within (widened at) (2 ^ 36) }
-    requires centre_small { Within (widened c) (2 ^ 36) }
+    requires center_small { Within (widened c) (2 ^ 36) }
     ensures value { result ≡ shifted (dot_of (widened normal) (difference_of (widened c) (widened at))) 30 }
     ensures size { AtMost result (2 ^ 39) }
 {
@@ -95,20 +95,20 @@ pub fn gap(at: Vec3, normal: Vec3, c: Vec3) -> i128
 /// From a wall's point to a place.
 pub fn offset_from(at: Vec3, c: Vec3) -> Wide3
     requires point_small { Within (widened at) (2 ^ 36) }
-    requires centre_small { Within (widened c) (2 ^ 36) }
+    requires center_small { Within (widened c) (2 ^ 36) }
     ensures value { result ≡ difference_of (widened c) (widened at) }
     ensures size { Within result (2 ^ 37) }
 {
     sub3(widen(c), widen(at))
 }
 
-/// How a sphere touches a plane, from its centre and its radius.
+/// How a sphere touches a plane, from its center and its radius.
 #[tactic(auto, unfolding(dem_model::specs::Touch::plane_touch, dem_model::specs::Touch::gap_of))]
-pub fn touch_plane(at: Vec3, dir: Vec3, c: Vec3, r: u32) -> Option<Touch>
+pub fn plane_touch(at: Vec3, dir: Vec3, c: Vec3, r: u32) -> Option<Touch>
     requires some { is_zero (widened dir) ≡ false }
     requires small { Within (widened dir) (2 ^ 20) }
     requires point_small { Within (widened at) (2 ^ 36) }
-    requires centre_small { Within (widened c) (2 ^ 36) }
+    requires center_small { Within (widened c) (2 ^ 36) }
     ensures value { result ≡ plane_touch at dir c r }
     ensures size { IfSome result IsTouch }
 {
@@ -127,11 +127,11 @@ pub fn touch_plane(at: Vec3, dir: Vec3, c: Vec3, r: u32) -> Option<Touch>
 /// Whether a sphere is near a plane, where it may move at most `extra` u per axis.
 /// Each component of the normal is at most 1, so that the gap changes by at most three times that.
 #[tactic(auto, unfolding(dem_model::specs::Near::plane_near, dem_model::specs::Touch::gap_of))]
-pub fn near_plane(at: Vec3, dir: Vec3, c: Vec3, r: u32, extra: u64) -> bool
+pub fn plane_near(at: Vec3, dir: Vec3, c: Vec3, r: u32, extra: u64) -> bool
     requires some { is_zero (widened dir) ≡ false }
     requires small { Within (widened dir) (2 ^ 20) }
     requires point_small { Within (widened at) (2 ^ 36) }
-    requires centre_small { Within (widened c) (2 ^ 36) }
+    requires center_small { Within (widened c) (2 ^ 36) }
     requires extra_small { extra ≤ 2 ^ 37 }
     ensures { result ≡ plane_near at dir c r extra }
 {

@@ -18,7 +18,7 @@ fn unit_of_a_diagonal(rt: HostRuntime) {
     );
 }
 
-/// A sphere of radius 1000 whose centre is 999 over a floor overlaps it by 1; at 1000 it doesn't touch.
+/// A sphere of radius 1000 whose center is 999 over a floor overlaps it by 1; at 1000 it doesn't touch.
 #[test]
 fn floor_is_touched_below_the_radius(rt: HostRuntime) {
     let floor = Wall {

@@ -6,43 +6,43 @@ ghost use Rattle.dem_model.specs.Touch.{wall_touch_of};
 ghost use Rattle.dem_model.specs.Near.{wall_near_of};
 ghost use Rattle.dem_model.specs.Ranges.{IsWallFor, IsTouch};
 
-use crate::cylinder::{near_cylinder, touch_cylinder};
-use crate::plane::{near_plane, touch_plane};
+use crate::cylinder::{cylinder_near, cylinder_touch};
+use crate::plane::{plane_near, plane_touch};
 use dem_model::{Form, MAX_POINT, Touch, Wall};
 use dem_num::Vec3;
 
-/// How a sphere with centre `c` and radius `r`, in u, touches a wall; None where it doesn't.
+/// How a sphere with center `c` and radius `r`, in u, touches a wall; None where it doesn't.
 #[tactic(auto, unfolding(dem_model::specs::Touch::wall_touch_of))]
 pub fn wall_touch(wall: &Wall, c: Vec3, r: u32) -> Option<Touch>
     requires wall { IsWallFor r wall.now.form }
-    requires centre { EachBetween (pos 0) (pos MAX_POINT) c }
+    requires center { EachBetween (pos 0) (pos MAX_POINT) c }
     ensures value { result ≡ wall_touch_of wall.now c r }
     ensures size { IfSome result IsTouch }
 {
     match wall.form {
-        Form::Plane { at, dir } => touch_plane(at, dir, c, r),
+        Form::Plane { at, dir } => plane_touch(at, dir, c, r),
         Form::Cylinder {
             axis,
             at,
             r: radius,
-        } => touch_cylinder(axis, at, radius, c, r),
+        } => cylinder_touch(axis, at, radius, c, r),
     }
 }
 
-/// Whether a sphere with centre `c` and radius `r` is near a wall: whether it may touch it after moving at most `extra` u per axis.
+/// Whether a sphere with center `c` and radius `r` is near a wall: whether it may touch it after moving at most `extra` u per axis.
 #[tactic(auto, unfolding(dem_model::specs::Near::wall_near_of))]
 pub fn wall_near(wall: &Wall, c: Vec3, r: u32, extra: u64) -> bool
     requires wall { IsWallFor r wall.now.form }
-    requires centre { EachBetween (pos 0) (pos MAX_POINT) c }
+    requires center { EachBetween (pos 0) (pos MAX_POINT) c }
     requires extra_small { extra ≤ 2 ^ 37 }
     ensures { result ≡ wall_near_of wall.now c r extra }
 {
     match wall.form {
-        Form::Plane { at, dir } => near_plane(at, dir, c, r, extra),
+        Form::Plane { at, dir } => plane_near(at, dir, c, r, extra),
         Form::Cylinder {
             axis,
             at,
             r: radius,
-        } => near_cylinder(axis, at, radius, c, r, extra),
+        } => cylinder_near(axis, at, radius, c, r, extra),
     }
 }

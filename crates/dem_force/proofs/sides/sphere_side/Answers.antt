@@ -1,5 +1,5 @@
 use Rattle.std.proofs.Common.{ap, ◌∙◌}
-use Rattle.dem_model.specs.Step.{side_from, side_of}
+use Rattle.dem_model.specs.Step.{side_of, side_at}
 use Rattle.dem_force.proofs.TouchFacts.{body_of_sphere, body_at_sphere}
 use Rattle.dem_force.proofs.sides.sphere_side.Goals as goal
 
@@ -7,7 +7,7 @@ pub side_of-requires-clause-body : goal.side_of-requires-clause-body
 side_of-requires-clause-body c = body_of_sphere c.args.shapes.now c.args.bodies.now c.args.sphere c.clump_of.result _ c.requires.sound c.clump_of.ensures.value c.clump_of.ensures.within
 
 pub returns-clause-value : goal.returns-clause-value
-unfolding side_of
+unfolding side_at
 returns-clause-value c =
     c.side_of.ensures.value
-    ∙ ap (λ b. side_from c.args.shapes.now b c.args.sphere) (body_at_sphere c.args.shapes.now c.args.bodies.now c.args.sphere c.clump_of.result _ c.requires.sound c.clump_of.ensures.value c.clump_of.ensures.within)
+    ∙ ap (λ b. side_of c.args.shapes.now b c.args.sphere) (body_at_sphere c.args.shapes.now c.args.bodies.now c.args.sphere c.clump_of.result _ c.requires.sound c.clump_of.ensures.value c.clump_of.ensures.within)

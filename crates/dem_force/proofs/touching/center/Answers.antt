@@ -9,8 +9,8 @@ use Rattle.dem_force.proofs.touching.center.Goals as goal
 
 pub returns-clause-size : goal.returns-clause-size
 returns-clause-size c =
-    subst (λ (v : Vec3). Within (widened v) (2 ^ 36)) (sym c.get.ensures) (in_box-small c.args.shapes.now _ c.scene-scene.ensures.sound (c.requires.centres.each c.args.s c.requires.sphere))
+    subst (λ (v : Vec3). Within (widened v) (2 ^ 36)) (sym c.get.ensures) (in_box-small c.args.shapes.now _ c.scene-scene.ensures.sound (c.requires.centers.each c.args.s c.requires.sphere))
 
 pub returns-clause-place : goal.returns-clause-place
 returns-clause-place c =
-    subst (λ (v : Vec3). EachBetween (pos 0) (pos MAX_POINT) v) (sym c.get.ensures) (in_box-between c.args.shapes.now _ c.scene-scene.ensures.sound (c.requires.centres.each c.args.s c.requires.sphere))
+    subst (λ (v : Vec3). EachBetween (pos 0) (pos MAX_POINT) v) (sym c.get.ensures) (in_box-between c.args.shapes.now _ c.scene-scene.ensures.sound (c.requires.centers.each c.args.s c.requires.sphere))

@@ -1,14 +1,14 @@
 use Rattle.std.proofs.Common.{◌≡◌, sym, ap, ◌∙◌, subst, List}
 use Rattle.dem_model.specs.Motion.{AreInside}
-use Rattle.dem_model.proofs.SoundFacts.{centres_of-inside}
+use Rattle.dem_model.proofs.SoundFacts.{centers_of-inside}
 use Rattle.dem_force.specs.Loads.{AreLoads}
 use Rattle.dem_plain.proofs.HoldsFacts.{loads-all}
 use Rattle.dem_plain.proofs.RunFacts.{next_made, next_stops}
 use Rattle.dem_plain.proofs.plain_run.stepped.Goals as goal
 
-pub all_met-requires-clause-centres : goal.all_met-requires-clause-centres
-all_met-requires-clause-centres c =
-    subst (AreInside c.args.shapes.now) (sym c.requires.centres) (centres_of-inside c.args.shapes.now c.args.state.now.bodies c.scene-scene.ensures.sound c.requires.sound)
+pub all_met-requires-clause-centers : goal.all_met-requires-clause-centers
+all_met-requires-clause-centers c =
+    subst (AreInside c.args.shapes.now) (sym c.requires.centers) (centers_of-inside c.args.shapes.now c.args.state.now.bodies c.scene-scene.ensures.sound c.requires.sound)
 
 pub advanced-requires-clause-loads : goal.advanced-requires-clause-loads
 advanced-requires-clause-loads c =
@@ -18,9 +18,9 @@ advanced-requires-clause-loads c =
 pub returns-in-Ok : goal.returns-in-Ok
 returns-in-Ok c =
     next_made c.args.shapes.now c.args.state.now c.in_ok-met.met _ c.in-Ok.bodies _ _ c.args.centers.now
-    c.as_slice-bodies.ensures c.as_slice.ensures c.as_slice-2.ensures.value c.requires.centres c.in_ok-met.ensures c.in-Ok.ensures
+    c.as_slice-bodies.ensures c.as_slice.ensures c.as_slice-2.ensures.value c.requires.centers c.in_ok-met.ensures c.in-Ok.ensures
 
 pub returns-in-Err : goal.returns-in-Err
 returns-in-Err c =
     next_stops c.args.shapes.now c.args.state.now c.in_ok-met.met c.in-Err.stop _ _ _ c.args.centers.now
-    c.as_slice-bodies.ensures c.as_slice.ensures c.as_slice-2.ensures.value c.requires.centres c.in_ok-met.ensures c.in-Err.ensures
+    c.as_slice-bodies.ensures c.as_slice.ensures c.as_slice-2.ensures.value c.requires.centers c.in_ok-met.ensures c.in-Err.ensures

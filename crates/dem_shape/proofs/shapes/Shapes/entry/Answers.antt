@@ -2,7 +2,7 @@ use Rattle.std.proofs.Common.{◌≡◌, ◌<◌, ap, ◌∙◌, subst, arith}
 use Rattle.dem_model.specs.Motion.{IsSphere}
 use Rattle.dem_model.specs.Pairs.{sphere_at, sphere_count}
 use Rattle.dem_model.proofs.SoundFacts.{sphere_at-sound}
-use Rattle.dem_shape.specs.Table.{entry_of}
+use Rattle.dem_shape.specs.Table.{table_entry_of}
 use Rattle.dem_shape.proofs.TableFacts.{table_length, table_entry}
 use Rattle.dem_shape.proofs.shapes.Shapes.entry.Goals as goal
 
@@ -18,7 +18,7 @@ returns-clause-value c =
     let there : c.args.s < sphere_count c.self.inside.scene.now = rw same c.requires in
     c.index.ensures
     ∙ table_entry c.self.inside.scene.now c.self.inside.entries.items c.args.s c.index.result.now c.self.invariant there
-    ∙ ap (λ s. entry_of s (sphere_at s c.args.s)) same
+    ∙ ap (λ s. table_entry_of s (sphere_at s c.args.s)) same
 
 pub returns-clause-sound : goal.returns-clause-sound
 returns-clause-sound c =

@@ -1,6 +1,6 @@
 use Rattle.std.proofs.Common.{◌<◌, length, sym, subst}
 use Rattle.std.proofs.lemmas.Option.{get_or_from_slice_get}
-use Rattle.dem_model.specs.Centres.{still_body}
+use Rattle.dem_model.specs.Centers.{still_body}
 use Rattle.dem_model.specs.Sound.{IsBodyOf}
 use Rattle.dem_model.specs.Step.{clump_at}
 use Rattle.dem_plain.proofs.RunFacts.{body_sound}

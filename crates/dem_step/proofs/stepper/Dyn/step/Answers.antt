@@ -3,17 +3,17 @@ use Rattle.std.specs.Option.{IsSomeAnd}
 use Rattle.std.proofs.lemmas.List.{with_items_is}
 use Rattle.dem_num.specs.declared.vector.Vec3.{Vec3}
 use Rattle.dem_model.specs.Carry.{kept_of}
-use Rattle.dem_model.specs.Centres.{centres_of}
+use Rattle.dem_model.specs.Centers.{centers_of}
 use Rattle.dem_model.specs.Motion.{AreInside}
 use Rattle.dem_model.specs.Step.{advanced_from, step_of}
 use Rattle.dem_model.specs.declared.law.Load.{Load}
 use Rattle.dem_model.specs.declared.state.Body.{Body}
 use Rattle.dem_model.specs.declared.state.State.{State}
-use Rattle.dem_model.proofs.SoundFacts.{centres_of-inside}
+use Rattle.dem_model.proofs.SoundFacts.{centers_of-inside}
 use Rattle.dem_force.specs.Loads.{AreLoads}
 use Rattle.dem_list.specs.Ascending.{Pairs}
 use Rattle.dem_hist.specs.Carrying.{HeldByPlace}
-use Rattle.dem_plain.proofs.RunFacts.{length-centres_of}
+use Rattle.dem_plain.proofs.RunFacts.{length-centers_of}
 use Rattle.dem_step.specs.Contacts.{held_by}
 use Rattle.dem_step.specs.Stepper.{Stepper, state_at}
 use Rattle.dem_step.specs.Inside.{from_of, IsStepper, HaveMet}
@@ -23,10 +23,10 @@ use Rattle.dem_step.proofs.StepFacts.{IsUsable, usable, about, step-made, step-e
 use Rattle.dem_step.proofs.KeptFacts.{stepper-next, state-next}
 use Rattle.dem_step.proofs.stepper.Dyn.step.Goals as goal
 
-pub meet_all-requires-clause-centres : goal.meet_all-requires-clause-centres
-meet_all-requires-clause-centres g c =
-    subst (AreInside c.self.inside.shapes.now) (sym (c.fill.ensures.centres ∙ ap (centres_of c.self.inside.shapes.now) c.as_slice.ensures))
-    (centres_of-inside c.self.inside.shapes.now c.self.inside.bodies c.self.invariant.0.scene c.self.invariant.0.sound)
+pub meet_all-requires-clause-centers : goal.meet_all-requires-clause-centers
+meet_all-requires-clause-centers g c =
+    subst (AreInside c.self.inside.shapes.now) (sym (c.fill.ensures.centers ∙ ap (centers_of c.self.inside.shapes.now) c.as_slice.ensures))
+    (centers_of-inside c.self.inside.shapes.now c.self.inside.bodies c.self.invariant.0.scene c.self.invariant.0.sound)
 
 pub meet_all-requires-clause-pairs : goal.meet_all-requires-clause-pairs
 meet_all-requires-clause-pairs g c =
@@ -55,7 +55,7 @@ pub invariant_of-self-in-Err : goal.invariant_of-self-in-Err
 invariant_of-self-in-Err g c =
     let can : IsUsable c.self.inside.shapes.now c.self.inside.drift c.self.inside.step c.self.inside.contacts.list =
     usable c.self.inside.shapes.now c.self.inside.drift c.self.inside.step c.self.inside.listed c.self.inside.bodies c.self.inside.contacts c.self.invariant.0 (subst (λ (r : Stepper). IsSomeAnd r.from (λ from. r.state.step ≤ from + r.drift)) (sym c.self.view_is) c.requires.listed) in
-    let filled : c.fill.new.self.centers ≡ centres_of c.self.inside.shapes.now c.self.inside.bodies = c.fill.ensures.centres ∙ ap (centres_of c.self.inside.shapes.now) c.as_slice.ensures in
+    let filled : c.fill.new.self.centers ≡ centers_of c.self.inside.shapes.now c.self.inside.bodies = c.fill.ensures.centers ∙ ap (centers_of c.self.inside.shapes.now) c.as_slice.ensures in
     let met : HaveMet c.self.inside.shapes.now c.self.inside.bodies c.fill.new.self.centers (held_by c.self.inside.contacts) c.self.inside.contacts.list.pairs c.meet_all.new.loads c.meet_all.new.fresh =
     subst (λ (bs : List Body). HaveMet c.self.inside.shapes.now bs c.fill.new.self.centers (held_by c.self.inside.contacts) c.self.inside.contacts.list.pairs c.meet_all.new.loads c.meet_all.new.fresh) c.as_slice-2.ensures c.meet_all.ensures.met in
     let start = about c.self.inside.shapes.now c.self.inside.drift c.self.inside.step c.self.inside.listed c.self.inside.bodies c.self.inside.contacts c.fill.new.self.centers c.meet_all.new.loads c.meet_all.new.fresh c.self.invariant.0 can filled met in
@@ -66,7 +66,7 @@ invariant_of-self-in-Err g c =
     let fresh_count : length c.self.inside.contacts.list.pairs ≤ length c.meet_all.new.fresh = omega (arith, ap length c.as_mut_slice-2.ensures.value, c.meet_all.auto.fresh, c.self.invariant.1.entry_each) in (
       c.self.invariant.0,
       record {
-        places = record { centres = ap length filled ∙ length-centres_of c.self.inside.shapes.now c.self.inside.bodies; sides = c.fill.ensures.sides.count };
+        places = record { centers = ap length filled ∙ length-centers_of c.self.inside.shapes.now c.self.inside.bodies; sides = c.fill.ensures.sides.count };
         load_each = ap length (with_items_is c.self.inside.loads c.meet_all.new.loads size) ∙ load_count;
         body_each = c.advance_all.ensures.room;
         entry_each = subst (λ (es : List (Option Vec3)). length c.self.inside.contacts.list.pairs ≤ length es) (sym (with_items_is c.self.inside.fresh c.meet_all.new.fresh fresh_size)) fresh_count;
@@ -77,7 +77,7 @@ pub returns-in-Err-clause-step : goal.returns-in-Err-clause-step
 returns-in-Err-clause-step g c =
     let can : IsUsable c.self.inside.shapes.now c.self.inside.drift c.self.inside.step c.self.inside.contacts.list =
     usable c.self.inside.shapes.now c.self.inside.drift c.self.inside.step c.self.inside.listed c.self.inside.bodies c.self.inside.contacts c.self.invariant.0 (subst (λ (r : Stepper). IsSomeAnd r.from (λ from. r.state.step ≤ from + r.drift)) (sym c.self.view_is) c.requires.listed) in
-    let filled : c.fill.new.self.centers ≡ centres_of c.self.inside.shapes.now c.self.inside.bodies = c.fill.ensures.centres ∙ ap (centres_of c.self.inside.shapes.now) c.as_slice.ensures in
+    let filled : c.fill.new.self.centers ≡ centers_of c.self.inside.shapes.now c.self.inside.bodies = c.fill.ensures.centers ∙ ap (centers_of c.self.inside.shapes.now) c.as_slice.ensures in
     let met : HaveMet c.self.inside.shapes.now c.self.inside.bodies c.fill.new.self.centers (held_by c.self.inside.contacts) c.self.inside.contacts.list.pairs c.meet_all.new.loads c.meet_all.new.fresh =
     subst (λ (bs : List Body). HaveMet c.self.inside.shapes.now bs c.fill.new.self.centers (held_by c.self.inside.contacts) c.self.inside.contacts.list.pairs c.meet_all.new.loads c.meet_all.new.fresh) c.as_slice-2.ensures c.meet_all.ensures.met in
     let start = about c.self.inside.shapes.now c.self.inside.drift c.self.inside.step c.self.inside.listed c.self.inside.bodies c.self.inside.contacts c.fill.new.self.centers c.meet_all.new.loads c.meet_all.new.fresh c.self.invariant.0 can filled met in
@@ -95,7 +95,7 @@ pub invariant_of-self : goal.invariant_of-self
 invariant_of-self g c =
     let can : IsUsable c.self.inside.shapes.now c.self.inside.drift c.self.inside.step c.self.inside.contacts.list =
     usable c.self.inside.shapes.now c.self.inside.drift c.self.inside.step c.self.inside.listed c.self.inside.bodies c.self.inside.contacts c.self.invariant.0 (subst (λ (r : Stepper). IsSomeAnd r.from (λ from. r.state.step ≤ from + r.drift)) (sym c.self.view_is) c.requires.listed) in
-    let filled : c.fill.new.self.centers ≡ centres_of c.self.inside.shapes.now c.self.inside.bodies = c.fill.ensures.centres ∙ ap (centres_of c.self.inside.shapes.now) c.as_slice.ensures in
+    let filled : c.fill.new.self.centers ≡ centers_of c.self.inside.shapes.now c.self.inside.bodies = c.fill.ensures.centers ∙ ap (centers_of c.self.inside.shapes.now) c.as_slice.ensures in
     let met : HaveMet c.self.inside.shapes.now c.self.inside.bodies c.fill.new.self.centers (held_by c.self.inside.contacts) c.self.inside.contacts.list.pairs c.meet_all.new.loads c.meet_all.new.fresh =
     subst (λ (bs : List Body). HaveMet c.self.inside.shapes.now bs c.fill.new.self.centers (held_by c.self.inside.contacts) c.self.inside.contacts.list.pairs c.meet_all.new.loads c.meet_all.new.fresh) c.as_slice-2.ensures c.meet_all.ensures.met in
     let start = about c.self.inside.shapes.now c.self.inside.drift c.self.inside.step c.self.inside.listed c.self.inside.bodies c.self.inside.contacts c.fill.new.self.centers c.meet_all.new.loads c.meet_all.new.fresh c.self.invariant.0 can filled met in
@@ -119,7 +119,7 @@ invariant_of-self g c =
           (stepper-next c.self.inside.shapes.now c.self.inside.drift c.self.inside.step c.self.inside.listed c.self.inside.bodies c.advance_all.new.next c.self.inside.contacts.list c.self.inside.contacts.entries c.meet_all.new.fresh (held_by c.self.inside.contacts) c.fill.new.self.centers c.meet_all.new.loads
           c.self.invariant.0 below made c.in-Ok.ensures.sound fresh_count met)),
       record {
-        places = record { centres = ap length filled ∙ length-centres_of c.self.inside.shapes.now c.self.inside.bodies; sides = c.fill.ensures.sides.count };
+        places = record { centers = ap length filled ∙ length-centers_of c.self.inside.shapes.now c.self.inside.bodies; sides = c.fill.ensures.sides.count };
         load_each = ap length (with_items_is c.self.inside.loads c.meet_all.new.loads size) ∙ load_count;
         body_each = ap length c.swap.ensures.y_after ∙ c.self.invariant.0.sound.count;
         entry_each = omega (arith, ap (λ (h : HeldByPlace). length h.list.pairs) taken, ap length c.exchange.ensures.given, c.self.invariant.0.contacts_are.as_many);
@@ -130,7 +130,7 @@ pub returns-in-Ok-clause-step : goal.returns-in-Ok-clause-step
 returns-in-Ok-clause-step g c =
     let can : IsUsable c.self.inside.shapes.now c.self.inside.drift c.self.inside.step c.self.inside.contacts.list =
     usable c.self.inside.shapes.now c.self.inside.drift c.self.inside.step c.self.inside.listed c.self.inside.bodies c.self.inside.contacts c.self.invariant.0 (subst (λ (r : Stepper). IsSomeAnd r.from (λ from. r.state.step ≤ from + r.drift)) (sym c.self.view_is) c.requires.listed) in
-    let filled : c.fill.new.self.centers ≡ centres_of c.self.inside.shapes.now c.self.inside.bodies = c.fill.ensures.centres ∙ ap (centres_of c.self.inside.shapes.now) c.as_slice.ensures in
+    let filled : c.fill.new.self.centers ≡ centers_of c.self.inside.shapes.now c.self.inside.bodies = c.fill.ensures.centers ∙ ap (centers_of c.self.inside.shapes.now) c.as_slice.ensures in
     let met : HaveMet c.self.inside.shapes.now c.self.inside.bodies c.fill.new.self.centers (held_by c.self.inside.contacts) c.self.inside.contacts.list.pairs c.meet_all.new.loads c.meet_all.new.fresh =
     subst (λ (bs : List Body). HaveMet c.self.inside.shapes.now bs c.fill.new.self.centers (held_by c.self.inside.contacts) c.self.inside.contacts.list.pairs c.meet_all.new.loads c.meet_all.new.fresh) c.as_slice-2.ensures c.meet_all.ensures.met in
     let start = about c.self.inside.shapes.now c.self.inside.drift c.self.inside.step c.self.inside.listed c.self.inside.bodies c.self.inside.contacts c.fill.new.self.centers c.meet_all.new.loads c.meet_all.new.fresh c.self.invariant.0 can filled met in

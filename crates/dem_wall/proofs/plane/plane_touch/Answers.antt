@@ -5,7 +5,7 @@ use Rattle.std.proofs.lemmas.Int.{to_z-of_z}
 use Rattle.dem_model.specs.declared.limits.TheConstants.{MAX_OVERLAP}
 use Rattle.dem_model.specs.Touch.{gap_of}
 use Rattle.dem_wall.proofs.PlaneFacts.{gap_from, plane_touches, plane_misses}
-use Rattle.dem_wall.proofs.plane.touch_plane.Goals as goal
+use Rattle.dem_wall.proofs.plane.plane_touch.Goals as goal
 
 pub returns-then-is_closer-clause-value : goal.returns-then-is_closer-clause-value
 returns-then-is_closer-clause-value c =

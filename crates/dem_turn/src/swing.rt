@@ -1,4 +1,4 @@
-//! How far a sphere's centre may be from its clump's position, and how far it may swing in a step.
+//! How far a sphere's center may be from its clump's position, and how far it may swing in a step.
 
 ghost use Rattle.std.specs.Prelude.{◌≡◌, ◌+◌, ◌*◌, ◌^◌, ◌<◌, ◌≤◌};
 ghost use Rattle.dem_num.specs.Vectors.{widened, Within};

@@ -11,34 +11,34 @@ use Rattle.dem_num.specs.Rotations.{matrix_of, turned_of, arm_of, swing_limit_of
 use Rattle.dem_turn.proofs.StillFacts.{turned_zero, sum_turned_zero}
 use Rattle.dem_model.specs.SceneValue.{SceneValue}
 use Rattle.dem_model.specs.Position.{in_box}
-use Rattle.dem_model.specs.Spheres.{centre_of}
+use Rattle.dem_model.specs.Spheres.{center_of}
 use Rattle.dem_model.specs.Advance.{is_over, leaves_box, swings}
 use Rattle.dem_model.specs.declared.shape.Ball.{Ball}
 use Rattle.dem_model.specs.declared.state.Body.{Body}
 use Rattle.dem_force.proofs.LimitFacts.{none_pass}
 
 -- each sphere stands where the clump does
-each_centred : (balls : List Ball) → list_any (λ (x : Ball). not (is_zero (widened x.at))) balls ≡ false → All (λ (x : Ball). is_zero (widened x.at) ≡ true) balls
-each_centred balls h = λ i d lt. not-false (is_zero (widened (get_or balls i d).at)) (none_pass (λ (x : Ball). not (is_zero (widened x.at))) balls h i d lt)
+each_centered : (balls : List Ball) → list_any (λ (x : Ball). not (is_zero (widened x.at))) balls ≡ false → All (λ (x : Ball). is_zero (widened x.at) ≡ true) balls
+each_centered balls h = λ i d lt. not-false (is_zero (widened (get_or balls i d).at)) (none_pass (λ (x : Ball). not (is_zero (widened x.at))) balls h i d lt)
 
--- the centre of such a sphere
-own_centre : (b : Body) (x : Ball) → is_zero (widened x.at) ≡ true → centre_of b x ≡ widened b.p
-unfolding centre_of
-own_centre b x h = sum_turned_zero (widened b.p) (matrix_of b.q) (widened x.at) h
+-- the center of such a sphere
+own_center : (b : Body) (x : Ball) → is_zero (widened x.at) ≡ true → center_of b x ≡ widened b.p
+unfolding center_of
+own_center b x h = sum_turned_zero (widened b.p) (matrix_of b.q) (widened x.at) h
 
 -- none of them is outside where the clump is inside
 none_outside : (s : SceneValue) (balls : List Ball) (b : Body) → All (λ (x : Ball). is_zero (widened x.at) ≡ true) balls → in_box s (widened b.p) ≡ true
-    → list_any (λ (x : Ball). not (in_box s (centre_of b x))) balls ≡ false
+    → list_any (λ (x : Ball). not (in_box s (center_of b x))) balls ≡ false
 none_outside s balls b each inside =
-    list_any_none (λ (x : Ball). not (in_box s (centre_of b x))) balls
-    (λ i d lt. ap (λ p. not (in_box s p)) (own_centre b (get_or balls i d) (each i d lt)) ∙ ap not inside)
+    list_any_none (λ (x : Ball). not (in_box s (center_of b x))) balls
+    (λ i d lt. ap (λ p. not (in_box s p)) (own_center b (get_or balls i d) (each i d lt)) ∙ ap not inside)
 
 -- such a clump leaves the box where its own place does
 pub own_leaves : (s : SceneValue) (balls : List Ball) (b : Body) → list_any (λ (x : Ball). not (is_zero (widened x.at))) balls ≡ false
     → leaves_box s balls b ≡ not (in_box s (widened b.p))
 unfolding leaves_box
 own_leaves s balls b h = elim (cases_Bool (in_box s (widened b.p))) [
-  | inl t ↦ rw (t, none_outside s balls b (each_centred balls h) t) refl
+  | inl t ↦ rw (t, none_outside s balls b (each_centered balls h) t) refl
   | inr f ↦ rw f refl
 ]
 
@@ -55,6 +55,6 @@ pub own_swings : (spin : ℕ) (balls : List Ball) (old new : Body) → list_any 
     → swings spin balls old new ≡ false
 unfolding swings
 own_swings spin balls old new h =
-    let each = each_centred balls h in
+    let each = each_centered balls h in
     list_any_none (λ (x : Ball). is_over (swing_limit_of spin (arm_of (widened x.at))) (difference_of (turned_of new.q (widened x.at)) (turned_of old.q (widened x.at)))) balls
     (λ i d lt. still (swing_limit_of spin (arm_of (widened (get_or balls i d).at))) old new (widened (get_or balls i d).at) (each i d lt))

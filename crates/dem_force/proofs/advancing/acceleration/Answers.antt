@@ -1,7 +1,7 @@
 use Rattle.std.proofs.Common.{◌*◌, ◌/◌, ◌≤◌, arith, unsigned_abs}
 use Rattle.std.proofs.lemmas.Int.{to_z-of_z}
 use Rattle.dem_num.proofs.ProductBounds.{part_le}
-use Rattle.dem_force.proofs.advancing.share.Goals as goal
+use Rattle.dem_force.proofs.advancing.acceleration.Goals as goal
 
 pub returns-clause-size : goal.returns-clause-size
 returns-clause-size c =

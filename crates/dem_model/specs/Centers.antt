@@ -3,7 +3,7 @@ use Rattle.std.specs.Prelude.{ℕ, pos, ◌+◌, List, map, Option, nat_lt, slic
 use Rattle.dem_num.specs.declared.vector.Vec3.{Vec3}
 use Rattle.dem_num.specs.Vectors.{widened, narrowed, difference_of, no_vector}
 use Rattle.dem_model.specs.SceneValue.{SceneValue}
-use Rattle.dem_model.specs.Spheres.{Sphere, spheres_of, centre_of}
+use Rattle.dem_model.specs.Spheres.{Sphere, spheres_of, center_of}
 use Rattle.dem_model.specs.Pairs.{sphere_count, sphere_at, wall_at}
 use Rattle.dem_model.specs.Touch.{spheres_touch, wall_touch_of}
 use Rattle.dem_model.specs.declared.law.Touch.{Touch}
@@ -19,21 +19,21 @@ still_body = record { p = narrowed no_vector; q = record { a = pos UNIT; b = pos
 unfoldable pub body_at : List Body → ℕ → Body
 body_at bodies k = slice_index_or bodies k still_body
 
--- the centre of a sphere, where the bodies stand so
+-- the center of a sphere, where the bodies stand so
 unfoldable pub placed : List Body → Sphere → Vec3
-placed bodies x = narrowed (centre_of (body_at bodies x.clump) x.ball)
+placed bodies x = narrowed (center_of (body_at bodies x.clump) x.ball)
 
--- the centres of all spheres, in the order of their numbers
-unfoldable pub centres_of : SceneValue → List Body → List Vec3
-centres_of s bodies = map (placed bodies) (spheres_of s)
+-- the centers of all spheres, in the order of their numbers
+unfoldable pub centers_of : SceneValue → List Body → List Vec3
+centers_of s bodies = map (placed bodies) (spheres_of s)
 
--- a centre by the number of its sphere
-unfoldable pub centre_at : List Vec3 → ℕ → Vec3
-centre_at centres i = slice_index_or centres i (narrowed no_vector)
+-- a center by the number of its sphere
+unfoldable pub center_at : List Vec3 → ℕ → Vec3
+center_at centers i = slice_index_or centers i (narrowed no_vector)
 
--- how a pair touches, where the centres are these
+-- how a pair touches, where the centers are these
 unfoldable pub touch_of : SceneValue → List Vec3 → Pair → Option Touch
-touch_of s centres p =
+touch_of s centers p =
     if nat_lt p.b (sphere_count s)
-    then spheres_touch (difference_of (widened (centre_at centres p.a)) (widened (centre_at centres p.b))) ((sphere_at s p.a).ball.r + (sphere_at s p.b).ball.r)
-    else wall_touch_of (wall_at s p.b) (centre_at centres p.a) (sphere_at s p.a).ball.r
+    then spheres_touch (difference_of (widened (center_at centers p.a)) (widened (center_at centers p.b))) ((sphere_at s p.a).ball.r + (sphere_at s p.b).ball.r)
+    else wall_touch_of (wall_at s p.b) (center_at centers p.a) (sphere_at s p.a).ball.r

@@ -1,7 +1,0 @@
-use Rattle.std.proofs.Common.{◌≡◌, drop}
-use Rattle.dem_model.specs.ReadingScene.{centres_inside}
-use Rattle.dem_scene.proofs.place.centres_inside.Given as goal
-
--- those so far are inside, so the others decide
-abbrev pub invariant-loop-ball : goal.invariant-loop-ball
-invariant-loop-ball l = centres_inside l.draft l.body (drop l.ball-index l.balls) ≡ centres_inside l.draft l.body l.balls

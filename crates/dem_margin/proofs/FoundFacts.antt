@@ -13,12 +13,20 @@ use Rattle.dem_model.specs.Pairs.{sphere_count, limit_of, pair_of, apart, row_be
 use Rattle.dem_model.specs.Near.{near, near_of}
 use Rattle.dem_model.specs.declared.state.Pair.{Pair}
 use Rattle.dem_model.proofs.PairFacts.{row_below-more, row_below-start, pairs_below-more, pairs_below-none}
-use Rattle.dem_margin.specs.Found.{found_below, found_in_row, found_here}
+use Rattle.dem_margin.specs.NearList.{pair_if_near}
+
+-- the near pairs of the spheres numbered below a
+abbrev pub found_below : SceneValue → ℕ → List Vec3 → ℕ → List Pair
+found_below s drift centers a = filter (near s drift centers) (pairs_below s a)
+
+-- those, and the near pairs of sphere a with what is numbered below b
+abbrev pub found_in_row : SceneValue → ℕ → List Vec3 → ℕ → ℕ → List Pair
+found_in_row s drift centers a b = filter (near s drift centers) (pairs_below s a ++ row_below s a b)
 
 -- a pair alone, filtered
-found_here-is : (s : SceneValue) (drift : ℕ) (centers : List Vec3) (p : Pair) →
-    filter (near s drift centers) (if apart s p then p ∷ [] else []) ≡ found_here s drift centers p
-found_here-is s drift centers p =
+pair_if_near-is : (s : SceneValue) (drift : ℕ) (centers : List Vec3) (p : Pair) →
+    filter (near s drift centers) (if apart s p then p ∷ [] else []) ≡ pair_if_near s drift centers p
+pair_if_near-is s drift centers p =
     elim (cases_Bool (apart s p)) [
       | inl e ↦ rw e refl
       | inr e ↦ rw e refl
@@ -31,10 +39,10 @@ found-row s drift centers a =
 
 -- a row goes on
 pub found-place : (s : SceneValue) (drift : ℕ) (centers : List Vec3) (a b : ℕ) →
-    found_in_row s drift centers a b ++ found_here s drift centers (pair_of a b) ≡ found_in_row s drift centers a (b + 1)
+    found_in_row s drift centers a b ++ pair_if_near s drift centers (pair_of a b) ≡ found_in_row s drift centers a (b + 1)
 found-place s drift centers a b =
     let one : List Pair = if apart s (pair_of a b) then pair_of a b ∷ [] else [] in
-    ap (λ xs. found_in_row s drift centers a b ++ xs) (sym (found_here-is s drift centers (pair_of a b)))
+    ap (λ xs. found_in_row s drift centers a b ++ xs) (sym (pair_if_near-is s drift centers (pair_of a b)))
     ∙ sym (filter-append (near s drift centers) (pairs_below s a ++ row_below s a b) (if apart s (pair_of a b) then pair_of a b ∷ [] else []))
     ∙ ap (filter (near s drift centers)) (append_assoc (pairs_below s a) (row_below s a b) (if apart s (pair_of a b) then pair_of a b ∷ [] else []) ∙ ap (λ xs. pairs_below s a ++ xs) (sym (row_below-more s a b)))
 

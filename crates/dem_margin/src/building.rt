@@ -1,11 +1,11 @@
 //! The list of all near pairs of a snapshot, every pair tested.
 
-ghost use Rattle.std.specs.Prelude.{◌≡◌, ◌+◌, ◌^◌, ◌<◌, ◌≤◌, ◌++◌, [], length, OnOk, IfOk, IfErr};
+ghost use Rattle.std.specs.Prelude.{◌≡◌, ◌+◌, ◌^◌, ◌<◌, ◌≤◌, ◌++◌, [], length, filter, OnOk, OnErr, IfOk, IfErr};
 ghost use Rattle.dem_model.specs.Centers.{centers_of};
 ghost use Rattle.dem_model.specs.Motion.{AreInside, AreSound};
-ghost use Rattle.dem_model.specs.Near.{near_of};
-ghost use Rattle.dem_model.specs.Pairs.{sphere_count, limit_of};
-ghost use Rattle.dem_margin.specs.Found.{found_below, found_in_row, found_here};
+ghost use Rattle.dem_model.specs.Near.{near, near_of};
+ghost use Rattle.dem_model.specs.Pairs.{sphere_count, limit_of, pairs_below};
+ghost use Rattle.dem_margin.specs.NearList.{IsNearListOf, pair_if_near};
 
 use crate::margin::tested;
 use dem_list::{PairList, RawPairs};
@@ -23,8 +23,7 @@ pub fn build_all(
 ) -> Result<PairList, (PairList, OutOfMemory)>
     requires sound { AreSound shapes.now snap.now.bodies }
     requires drift { drift ≤ 1024 }
-    ensures near { IfOk result (λ list. list.pairs ≡ near_of shapes.now drift (centers_of shapes.now snap.now.bodies)) }
-    ensures from { IfOk result (λ list. list.from ≡ snap.now.step) }
+    ensures near { IfOk result (IsNearListOf shapes.now drift snap.now) }
     ensures refused { IfErr result (λ refused. refused.0 ≡ record { from = snap.now.step; pairs = [] }) }
 {
     let mut raw = buf.raw(snap.step);
@@ -35,7 +34,7 @@ pub fn build_all(
 }
 
 /// A list of no pairs, from this step, in the buffer of what was found.
-fn emptied(raw: RawPairs, step: u32) -> PairList
+pub fn emptied(raw: RawPairs, step: u32) -> PairList
     ensures { result ≡ record { from = step; pairs = [] } }
 {
     raw.settle().raw(step).settle()
@@ -91,20 +90,20 @@ fn add_row(
     requires centers { AreInside shapes.now centers.now }
     requires drift { drift ≤ 1024 }
     requires sphere { a < sphere_count shapes.now }
-    requires before { raw.old.pairs ≡ found_below shapes.now drift centers.now a }
-    ensures found { OnOk result (raw.new.pairs ≡ found_below shapes.now drift centers.now (a + 1)) }
+    requires before { raw.old.pairs ≡ filter (near shapes.now drift centers.now) (pairs_below shapes.now a) }
+    ensures found { OnOk result (raw.new.pairs ≡ filter (near shapes.now drift centers.now) (pairs_below shapes.now (a + 1))) }
     ensures from { raw.new.from ≡ raw.old.from }
 {
     let _scene = shapes.scene();
     let limit = shapes.spheres() + shapes.walls();
     for b in a + 1..limit {
-        add_pair(raw, shapes, centers, drift, Pair { a, b })?;
+        add_near(raw, shapes, centers, drift, Pair { a, b })?;
     }
     Ok(())
 }
 
-/// Adds one pair, if it is apart and near.
-fn add_pair(
+/// Adds one pair, if it is apart and near; after a refusal the list is as before. It counts no test.
+pub fn add_near(
     raw: &mut RawPairs,
     shapes: &Shapes,
     centers: &Centers,
@@ -117,8 +116,9 @@ fn add_pair(
     requires second { pair.b < limit_of shapes.now }
     requires later { pair.a < pair.b }
     requires room { length raw.old.pairs + 1 < 2 ^ 32 }
-    ensures found { OnOk result (raw.new.pairs ≡ raw.old.pairs ++ found_here shapes.now drift centers.now pair) }
+    ensures found { OnOk result (raw.new.pairs ≡ raw.old.pairs ++ pair_if_near shapes.now drift centers.now pair) }
     ensures from { raw.new.from ≡ raw.old.from }
+    ensures refused { OnErr result (raw.new ≡ raw.old) }
 {
     if is_apart(shapes, pair) && tested(shapes, centers, pair, drift) {
         raw.add(pair)

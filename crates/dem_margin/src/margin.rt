@@ -53,7 +53,7 @@ pub fn near<L: Ledger>(
     tested(shapes, centers, pair, drift)
 }
 
-/// Whether a pair is near.
+/// Whether a pair is near, for a caller that counts the test itself.
 #[tactic(auto, unfolding(dem_model::specs::Near::near))]
 pub fn tested(shapes: &Shapes, centers: &Centers, pair: Pair, drift: u32) -> bool
     requires pair { IsPair shapes.now pair }

@@ -28,7 +28,7 @@ use Rattle.dem_model.specs.declared.state.Pair.{Pair}
 use Rattle.dem_model.specs.declared.state.State.{State}
 use Rattle.dem_model.proofs.SoundFacts.{clump_at-sound}
 use Rattle.dem_plain.specs.declared.met.Met.{Met}
-use Rattle.dem_plain.specs.Run.{AreStored, IsNext, IsRun, Advances, Steps}
+use Rattle.dem_plain.specs.Run.{AreStored, IsNext, IsRun, Advances, IsAfter}
 use Rattle.dem_plain.specs.declared.stop.Stop.{Stop}
 use Rattle.dem_plain.specs.declared.stop.Stop.TheVariants.{Ended, OutOfMemory}
 use Rattle.dem_model.specs.Spheres.{spheres_of}
@@ -290,7 +290,7 @@ next_made s st met bodies next held loads centers b e l filled h a =
 -- the step stops where the bodies stop
 pub next_stops : (s : SceneValue) (st : State) (met : Met) (stop : Stop) (bodies : List Body) (held : List Held) (loads : List Load) (centers : List Vec3) →
     bodies ≡ st.bodies → held ≡ st.held → loads ≡ met.loads.items → centers ≡ centers_of s st.bodies →
-    Holds s bodies centers held (all_pairs s) met → Advances s (st.step + 1) bodies loads (Err stop) → Steps s st (Err stop)
+    Holds s bodies centers held (all_pairs s) met → Advances s (st.step + 1) bodies loads (Err stop) → IsAfter s st (Err stop)
 next_stops s st met (Ended end) bodies held loads centers b e l filled h a =
     step_ends s st met end centers filled (holds_of s st met bodies held centers b e h)
     (subst (λ xs. advanced_from s (st.step + 1) 0 s.clumps xs met.loads.items ≡ Err end) b

@@ -39,10 +39,10 @@ pub record IsRun (s : SceneValue) (centers : List Vec3) (state : State) : Type 0
   pub held : AreStored state.held
 
 -- a step of a run: it is the plain step, or its end, and after a refusal the run is as before
-abbrev pub MakesStep : {A : Type 0} → Run → Run → Result A Stop → Type 0
-MakesStep old new (Ok _) = (step_of old.scene old.state ≡ Ok new.state) × (new.scene ≡ old.scene)
-MakesStep old new (Err (Ended e)) = (step_of old.scene old.state ≡ Err e) × (new ≡ old)
-MakesStep old new (Err OutOfMemory) = new ≡ old
+abbrev pub StepsPlain : {A : Type 0} → Run → Run → Result A Stop → Type 0
+StepsPlain old new (Ok _) = (step_of old.scene old.state ≡ Ok new.state) × (new.scene ≡ old.scene)
+StepsPlain old new (Err (Ended e)) = (step_of old.scene old.state ≡ Err e) × (new ≡ old)
+StepsPlain old new (Err OutOfMemory) = new ≡ old
 
 -- the state after a state: that of the plain step, within all that a run keeps
 pub record IsNext (s : SceneValue) (old new : State) : Type 0 where
@@ -52,10 +52,10 @@ pub record IsNext (s : SceneValue) (old new : State) : Type 0 where
   pub held : AreStored new.held
 
 -- what comes after a state: the plain step, or its end
-abbrev pub Steps : SceneValue → State → Result State Stop → Type 0
-Steps s old (Ok new) = IsNext s old new
-Steps s old (Err (Ended e)) = step_of s old ≡ Err e
-Steps s old (Err OutOfMemory) = Unit {0}
+abbrev pub IsAfter : SceneValue → State → Result State Stop → Type 0
+IsAfter s old (Ok new) = IsNext s old new
+IsAfter s old (Err (Ended e)) = step_of s old ≡ Err e
+IsAfter s old (Err OutOfMemory) = Unit {0}
 
 -- the bodies after a step, each sound for its clump, or the first limit that one passes
 abbrev pub Advances : SceneValue → ℕ → List Body → List Load → Result (List Body) Stop → Type 0

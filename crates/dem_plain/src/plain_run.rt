@@ -4,7 +4,7 @@ ghost use Rattle.std.specs.Prelude.{◌≡◌, ◌<◌, ◌≤◌, length, IfOk,
 ghost use Rattle.dem_model.specs.Motion.{AreInside, AreSound};
 ghost use Rattle.dem_model.specs.Plain.{first_state, plain_at};
 ghost use Rattle.dem_model.specs.Centers.{centers_of};
-ghost use Rattle.dem_plain.specs.Run.{AreStored, MakesStep, Steps};
+ghost use Rattle.dem_plain.specs.Run.{AreStored, StepsPlain, IsAfter};
 
 use crate::advancing::advanced;
 use crate::met::all_met;
@@ -57,7 +57,7 @@ impl<'s> PlainRun<'s> {
     /// Makes one step, or tells the limit that it passes. After a refusal the state is as before.
     pub fn step(&mut self) -> Result<(), Stop>
         requires { self.old.state.step < self.old.scene.steps }
-        ensures { MakesStep self.old self.new result }
+        ensures { StepsPlain self.old self.new result }
     {
         self.centers
             .fill(&self.shapes, self.state.bodies.as_slice());
@@ -70,10 +70,12 @@ impl<'s> PlainRun<'s> {
         }
     }
 
-    /// The state that the run has reached.
+    /// The state that the run has reached: that of the plain run, with sound bodies, and displacements within their range.
     pub fn state(&self) -> &State
         ensures value { result.now ≡ self.now.state }
         ensures plain { plain_at self.now.scene self.now.state.step ≡ Some self.now.state }
+        ensures sound { AreSound self.now.scene self.now.state.bodies }
+        ensures stored { AreStored self.now.state.held }
         ensures bodies { length result.now.bodies ≤ 16384 }
     {
         let _scene = self.shapes.scene();
@@ -98,7 +100,7 @@ fn stepped(alloc: Global, shapes: &Shapes, centers: &Centers, state: &State) -> 
     requires centers { centers.now ≡ centers_of shapes.now state.now.bodies }
     requires stored { AreStored state.now.held }
     requires goes_on { state.now.step < shapes.now.steps }
-    ensures { Steps shapes.now state.now result }
+    ensures { IsAfter shapes.now state.now result }
 {
     let _scene = shapes.scene();
     let bodies = state.bodies.as_slice();

@@ -1,6 +1,6 @@
 -- What a run on lists keeps: at its start, after a step, after a list was taken into use.
 use Rattle.std.proofs.Common.{◌≡◌, ℕ, ◌+◌, ◌^◌, ◌<◌, ◌≤◌, List, [], length, get_or, take, refl, sym, ap, ◌∙◌, arith, subst, Bool, true, false, Option, Some, Ok}
-use Rattle.std.specs.Prelude.{IfSome}
+use Rattle.std.specs.Prelude.{All}
 use Rattle.std.proofs.lemmas.List.{length-take-le, length-map}
 use Rattle.std.proofs.lemmas.List.Elements.{All-nil}
 use Rattle.dem_num.specs.declared.vector.Vec3.{Vec3}
@@ -9,7 +9,7 @@ use Rattle.dem_model.specs.SceneValue.{SceneValue}
 use Rattle.dem_model.specs.Sound.{IsSound}
 use Rattle.dem_model.specs.Carry.{kept_of, carried, Agrees}
 use Rattle.dem_model.specs.Centers.{centers_of}
-use Rattle.dem_model.specs.Motion.{AreSound}
+use Rattle.dem_model.specs.Motion.{AreSound, IsPair}
 use Rattle.dem_model.specs.Near.{near_of}
 use Rattle.dem_model.specs.Pairs.{all_pairs}
 use Rattle.dem_model.specs.Plain.{first_state, plain_at}
@@ -19,16 +19,20 @@ use Rattle.dem_model.specs.declared.state.Body.{Body}
 use Rattle.dem_model.specs.declared.state.Held.{Held}
 use Rattle.dem_model.specs.declared.state.Pair.{Pair}
 use Rattle.dem_model.specs.declared.state.State.{State}
+use Rattle.dem_model.proofs.CountFacts.{pair_count}
+use Rattle.dem_shape.specs.declared.snapshot.Snapshot.{Snapshot}
 use Rattle.dem_list.specs.Ascending.{Pairs, IsAscending}
 use Rattle.dem_list.proofs.AscendingFacts.{IsAscending-none}
 use Rattle.dem_hist.specs.Carrying.{HeldByPlace}
+use Rattle.dem_margin.specs.NearList.{IsNearListOf}
 use Rattle.dem_hist.proofs.CarryFacts.{length-carried}
 use Rattle.dem_plain.specs.Run.{AreStored}
 use Rattle.dem_plain.proofs.RunFacts.{stored_from, plain_first, first_sound}
-use Rattle.dem_step.specs.Stepper.{IsStepper, IsNearList, AreWithin, state_at}
-use Rattle.dem_step.specs.Met.{HaveMet}
-use Rattle.dem_step.proofs.ListFacts.{kept_of-take, stored-within, carried-within, agrees-carried}
-use Rattle.dem_step.proofs.StepFacts.{state_at-is, plain-after, list-covers, next_state}
+use Rattle.dem_step.specs.Contacts.{ArePairs, IsStored, IsHeldIn}
+use Rattle.dem_step.specs.Stepper.{state_at, IsSnapshotOfRun, IsListOfRun}
+use Rattle.dem_step.specs.Inside.{IsStepper, HaveMet}
+use Rattle.dem_step.proofs.ListFacts.{kept_of-take, stored-within, carried-within, agrees-carried, only-carried}
+use Rattle.dem_step.proofs.StepFacts.{state_at-is, plain-after, list-covers, list-pairs, next_state}
 
 -- a list and what is held of its pairs
 abbrev pub contacts_of : Pairs → List (Option Vec3) → HeldByPlace
@@ -38,9 +42,17 @@ contacts_of list entries = record { list = list; entries = entries }
 agrees-same : (s : SceneValue) (st : State) (held : List Held) → held ≡ st.held → Agrees s st held
 agrees-same s st held e = λ k d lt touches. ap (λ es. held_at es (get_or (all_pairs s) k d)) e
 
+-- what is held as in a state is held there
+only-same : (st : State) (held : List Held) → held ≡ st.held → IsHeldIn st held
+only-same st held e = λ p h found. ap (λ es. held_at es p) (sym e) ∙ found
+
+-- no pairs are pairs, and few
+no_pairs : (s : SceneValue) → ArePairs s []
+no_pairs s = record { each = All-nil (IsPair s); few = λ c. unfold pair_count in omega arith }
+
 -- the displacements of small pushes are within their range
 fresh-within : (s : SceneValue) (bodies : List Body) (centers : List Vec3) (held : List Held) (ps : List Pair) (loads : List Load) (fresh : List (Option Vec3)) →
-    length ps ≤ length fresh → HaveMet s bodies centers held ps loads fresh → AreWithin (take (length ps) fresh)
+    length ps ≤ length fresh → HaveMet s bodies centers held ps loads fresh → All IsStored (take (length ps) fresh)
 fresh-within s bodies centers held ps loads fresh room met =
     let stored : AreStored (kept_of ps fresh) = subst AreStored (sym met.kept) (stored_from (meetings s bodies centers held ps) met.small) in
     stored-within ps (take (length ps) fresh) (length-take-le (length ps) fresh room) (subst AreStored (sym (kept_of-take ps fresh)) stored)
@@ -60,10 +72,14 @@ stepper-next s drift step listed bodies next list entries fresh held centers loa
       plain = plain ∙ ap Some (sym is);
       bodies_are = ap (λ (x : State). x.bodies) (sym is);
       sound = sound;
-      ascends = h.ascends;
-      as_many = length-take-le (length list.pairs) fresh room;
-      within = fresh-within s bodies centers held list.pairs loads fresh room met;
+      contacts_are = record {
+        pairs = h.contacts_are.pairs;
+        ascends = h.contacts_are.ascends;
+        as_many = length-take-le (length list.pairs) fresh room;
+        stored = fresh-within s bodies centers held list.pairs loads fresh room met;
+      };
       agrees = agrees-same s (state_at s (step + 1)) (kept_of list.pairs (take (length list.pairs) fresh)) (kept_of-take list.pairs fresh ∙ ap (λ (x : State). x.held) (sym is));
+      only = only-same (state_at s (step + 1)) (kept_of list.pairs (take (length list.pairs) fresh)) (kept_of-take list.pairs fresh ∙ ap (λ (x : State). x.held) (sym is));
       near = h.near;
       past = λ e. let p : list.from ≤ step = h.past e in omega arith;
     }
@@ -76,7 +92,7 @@ state-next s step next held plain lt made =
 
 -- after a list was taken into use
 pub stepper-adopts : (s : SceneValue) (drift step : ℕ) (listed : Bool) (bodies : List Body) (old new : Pairs) (entries : List (Option Vec3)) →
-    IsStepper s drift step listed bodies (contacts_of old entries) → IsNearList s drift new → IsAscending new.pairs → new.from ≤ step → step ≤ new.from + drift →
+    IsStepper s drift step listed bodies (contacts_of old entries) → IsListOfRun s drift new → IsAscending new.pairs → new.from ≤ step → step ≤ new.from + drift →
     IsStepper s drift step true bodies (contacts_of new (carried old.pairs entries new.pairs))
 stepper-adopts s drift step listed bodies old new entries h near ascends past young = record {
   scene = h.scene;
@@ -84,11 +100,15 @@ stepper-adopts s drift step listed bodies old new entries h near ascends past yo
   plain = h.plain;
   bodies_are = h.bodies_are;
   sound = h.sound;
-  ascends = ascends;
-  as_many = length-carried old.pairs entries new.pairs;
-  within = carried-within old.pairs entries new.pairs h.within;
+  contacts_are = record {
+    pairs = list-pairs s drift new h.scene near;
+    ascends = ascends;
+    as_many = length-carried old.pairs entries new.pairs;
+    stored = carried-within old.pairs entries new.pairs h.contacts_are.stored;
+  };
   agrees = agrees-carried s drift (state_at s step) (centers_of s (state_at s new.from).bodies) old.pairs new.pairs entries
       (list-covers s drift step new h.scene h.plain near past young) near.pairs h.agrees;
+  only = only-carried (state_at s step) old.pairs new.pairs entries h.only;
   near = λ e. near;
   past = λ e. past;
 }
@@ -113,10 +133,9 @@ stepper-first s drift bodies sound le e =
       plain = plain_first s ∙ ap Some (sym is);
       bodies_are = e ∙ ap (λ (x : State). x.bodies) (sym is);
       sound = subst (AreSound s) (sym e) (first_sound s sound);
-      ascends = IsAscending-none [] refl;
-      as_many = refl;
-      within = All-nil (λ (o : Option Vec3). IfSome o (λ h. Within (widened h) (2 ^ 40)));
+      contacts_are = record { pairs = no_pairs s; ascends = IsAscending-none [] refl; as_many = refl; stored = All-nil IsStored };
       agrees = agrees-same s (state_at s 0) (kept_of [] []) (none_kept ∙ sym (none_held s) ∙ ap (λ (x : State). x.held) (sym is));
+      only = only-same (state_at s 0) (kept_of [] []) (none_kept ∙ sym (none_held s) ∙ ap (λ (x : State). x.held) (sym is));
       near = λ (no : false ≡ true). cc;
       past = λ (no : false ≡ true). cc;
     }
@@ -126,13 +145,20 @@ pub first-count : (s : SceneValue) (bodies : List Body) → bodies ≡ (first_st
 unfolding first_state
 first-count s bodies e = ap length e ∙ length-map s.clumps _
 
--- a list of the near pairs of the state where a run stands, from its step, may be taken into use
-pub near-list-now : (s : SceneValue) (drift : ℕ) (st : State) (list : Pairs) → plain_at s st.step ≡ Some st → list.from ≡ st.step →
-    list.pairs ≡ near_of s drift (centers_of s st.bodies) → IsNearList s drift list
-near-list-now s drift st list plain from pairs =
-    let there : plain_at s list.from ≡ Some st = ap (plain_at s) from ∙ plain in
-    let is : state_at s list.from ≡ st = state_at-is s list.from st there in
-    record {
-      there = there ∙ ap Some (sym is);
-      pairs = pairs ∙ ap (λ (x : State). near_of s drift (centers_of s x.bodies)) (sym is);
-    }
+-- the near list of a snapshot of the plain run is a list of the run
+pub list-of-run : (s : SceneValue) (drift : ℕ) (snap : Snapshot) (list : Pairs) → IsSnapshotOfRun s snap → IsNearListOf s drift snap list → IsListOfRun s drift list
+list-of-run s drift snap list shown near = record {
+  there = subst (λ n. plain_at s n ≡ Some (state_at s n)) (sym near.from) shown.there;
+  pairs = near.pairs
+      ∙ ap (λ (bs : List Body). near_of s drift (centers_of s bs)) shown.bodies
+      ∙ ap (λ n. near_of s drift (centers_of s (state_at s n).bodies)) (sym near.from);
+}
+
+-- the number and the bodies of the state where a run stands are a snapshot of the plain run
+pub snapshot-of-run : (s : SceneValue) (n : ℕ) (bodies : List Body) (snap : Snapshot) → snap.step ≡ n → snap.bodies ≡ bodies →
+    plain_at s n ≡ Some (state_at s n) → bodies ≡ (state_at s n).bodies → AreSound s bodies → IsSnapshotOfRun s snap
+snapshot-of-run s n bodies snap number same plain are sound = record {
+  there = subst (λ m. plain_at s m ≡ Some (state_at s m)) (sym number) plain;
+  bodies = same ∙ are ∙ ap (λ m. (state_at s m).bodies) (sym number);
+  sound = subst (AreSound s) (sym same) sound;
+}

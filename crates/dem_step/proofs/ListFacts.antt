@@ -26,8 +26,8 @@ use Rattle.dem_plain.specs.Run.{AreStored}
 use Rattle.dem_list.proofs.AscendingFacts.{same_pair-equal}
 use Rattle.dem_hist.proofs.CarryFacts.{kept_of-cons, same_pair-itself}
 use Rattle.dem_margin.proofs.PairsFacts.{all_pairs-pairs}
-use Rattle.dem_step.specs.Stepper.{AreWithin}
-use Rattle.dem_step.specs.Met.{ArePairs, entry_of}
+use Rattle.dem_step.specs.Contacts.{ArePairs, IsStored, IsHeldIn}
+use Rattle.dem_step.specs.Inside.{displacement_of}
 
 -- ---- what is held of the pairs of a list
 
@@ -81,7 +81,7 @@ cons_within p None hs all = (tt, all)
 cons_within p (Some h) hs all = (All-head HeldFits (held_of p h) hs all, All-tail HeldFits (held_of p h) hs all)
 
 -- entries within the range are held within it
-pub within-stored : (ps : List Pair) (es : List (Option Vec3)) → AreWithin es → AreStored (kept_of ps es)
+pub within-stored : (ps : List Pair) (es : List (Option Vec3)) → All IsStored es → AreStored (kept_of ps es)
 unfolding kept_of
 within-stored [] es h = All-nil HeldFits
 within-stored (p ∷ ps) [] h = All-nil HeldFits
@@ -89,7 +89,7 @@ within-stored (p ∷ ps) (e ∷ es) h =
     cons_stored p e (kept_of ps es) (All-head EntryFits e es h) (within-stored ps es (All-tail EntryFits e es h))
 
 -- and where there is an entry for each pair, they are within the range if all that is held is
-pub stored-within : (ps : List Pair) (es : List (Option Vec3)) → length es ≡ length ps → AreStored (kept_of ps es) → AreWithin es
+pub stored-within : (ps : List Pair) (es : List (Option Vec3)) → length es ≡ length ps → AreStored (kept_of ps es) → All IsStored es
 unfolding kept_of
 stored-within [] [] n h = All-nil EntryFits
 stored-within [] (e ∷ es) n h = absurd (omega arith)
@@ -109,7 +109,7 @@ held_at-within (e ∷ es) p all =
     ]
 
 -- entries stay within the range when they are carried
-pub carried-within : (ps : List Pair) (es : List (Option Vec3)) (new : List Pair) → AreWithin es → AreWithin (carried ps es new)
+pub carried-within : (ps : List Pair) (es : List (Option Vec3)) (new : List Pair) → All IsStored es → All IsStored (carried ps es new)
 unfolding carried
 carried-within ps es new h =
     All-map EntryFits (held_at (kept_of ps es)) new (λ k d lt. held_at-within (kept_of ps es) (get_or new k d) (within-stored ps es h))
@@ -162,6 +162,19 @@ held_at-mapped f (q ∷ new) p there =
     later : (q p : Pair) (new : List Pair) → same_pair q p ≡ false → Contains (q ∷ new) p → Contains new p
     later q p new o (zero, l, e) = let itself : same_pair q p ≡ true = ap (λ x. same_pair x p) e ∙ same_pair-itself p in absurd (cc)
     later q p new o (suc k, l, e) = (k, omega arith, e)
+
+-- what is held of a pair is what the function has put there
+held_at-only : (f : Pair → Option Vec3) (new : List Pair) (p : Pair) (h : Vec3) → held_at (kept_of new (map f new)) p ≡ Some h → f p ≡ Some h
+held_at-only f [] p h e = let none : held_at (kept_of [] (map f [])) p ≡ None = unfold held_at kept_of in refl in absurd (cc)
+held_at-only f (q ∷ new) p h e =
+    let cons : held_at (cons_option (option_map (held_of q) (f q)) (kept_of new (map f new))) p ≡ Some h = ap (λ hs. held_at hs p) (sym (kept_of-cons q new (f q) (map f new))) ∙ e in
+    elim (cases_Bool (same_pair q p)) [
+      | inl t ↦
+          ap f (sym (same_is q p t))
+          ∙ sym (held_at-this (f q) q (kept_of new (map f new)) p t (λ none. held_at-none f new p (ap f (sym (same_is q p t)) ∙ none)))
+          ∙ cons
+      | inr o ↦ held_at-only f new p h (sym (held_at-other (f q) q (kept_of new (map f new)) p o) ∙ cons)
+    ]
 
 -- of each pair of the new list the old list's entry is held
 pub held_at-carried : (ps : List Pair) (es : List (Option Vec3)) (new : List Pair) (p : Pair) → Contains new p →
@@ -231,12 +244,12 @@ meetings-agree s bodies centers held other ps agree =
 
 -- what a meeting leaves is held of its pair
 pub entry-held : (s : SceneValue) (bodies : List Body) (centers : List Vec3) (p : Pair) (h : Option Vec3) →
-    option_map (held_of p) (entry_of (meeting s bodies centers p h)) ≡ option_map held_in (meeting s bodies centers p h)
+    option_map (held_of p) (displacement_of (meeting s bodies centers p h)) ≡ option_map held_in (meeting s bodies centers p h)
 unfolding meeting held_in
 entry-held s bodies centers p h = by (touch_of s centers p)
   where
     by : (o : Option Touch) →
-        option_map (held_of p) (entry_of (option_map (λ (t : Touch). record { pair = p; push = push_of s bodies p t (unwrap_or h (narrowed no_vector)) }) o)) ≡
+        option_map (held_of p) (displacement_of (option_map (λ (t : Touch). record { pair = p; push = push_of s bodies p t (unwrap_or h (narrowed no_vector)) }) o)) ≡
         option_map held_in (option_map (λ (t : Touch). record { pair = p; push = push_of s bodies p t (unwrap_or h (narrowed no_vector)) }) o)
     by None = refl
     by (Some t) = refl
@@ -300,3 +313,8 @@ agrees-carried s drift st from ps new es covers is agrees = λ k d lt touches.
     let there : Contains (near_of s drift from) p = near-contains s drift from p (Contains-get_or (all_pairs s) k d lt) (covers k d lt touches) in
     let listed : Contains new p = subst (λ (xs : List Pair). Contains xs p) (sym is) there in
     held_at-carried ps es new p listed ∙ agrees k d lt touches
+
+-- what is held of the old list's pairs is held of the new list's, and no more
+pub only-carried : (st : State) (ps new : List Pair) (es : List (Option Vec3)) → IsHeldIn st (kept_of ps es) → IsHeldIn st (kept_of new (carried ps es new))
+unfolding carried
+only-carried st ps new es only = λ p h e. only p h (held_at-only (held_at (kept_of ps es)) new p h e)

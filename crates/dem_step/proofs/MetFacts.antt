@@ -18,7 +18,8 @@ use Rattle.dem_model.specs.declared.state.Pair.{Pair}
 use Rattle.dem_model.proofs.LoadFacts.{loads_of-push}
 use Rattle.dem_force.specs.Loads.{AreLoads}
 use Rattle.dem_plain.proofs.HoldsFacts.{meetings-push, sums-within, loads_none}
-use Rattle.dem_step.specs.Met.{ArePairs, HaveMet, IsSmallMeeting, loads_after, entry_of}
+use Rattle.dem_step.specs.Contacts.{ArePairs}
+use Rattle.dem_step.specs.Inside.{loads_after, displacement_of, IsSmallMeeting, HaveMet}
 use Rattle.dem_step.proofs.RoomFacts.{take-next}
 use Rattle.dem_step.proofs.ListFacts.{kept_of-set, pair_count-take, entry-held}
 
@@ -51,7 +52,7 @@ small-more ms (Some m) all small = All-push (λ (m : Meeting). IsSmall m.push) m
 pub HaveMet-more : (s : SceneValue) (bodies : List Body) (centers : List Vec3) (held : List Held) (ps : List Pair) (i : ℕ) (p : Pair) (h : Option Vec3)
     (old new : List Load) (fresh : List (Option Vec3)) (e : Option Vec3) →
     slice_get ps i ≡ Some p → held_at held p ≡ h → i < length fresh →
-    new ≡ loads_after s old (meeting s bodies centers p h) → e ≡ entry_of (meeting s bodies centers p h) → IsSmallMeeting (meeting s bodies centers p h) →
+    new ≡ loads_after s old (meeting s bodies centers p h) → e ≡ displacement_of (meeting s bodies centers p h) → IsSmallMeeting (meeting s bodies centers p h) →
     HaveMet s bodies centers held (take i ps) old fresh → HaveMet s bodies centers held (take (i + 1) ps) new (slice_set fresh i e)
 HaveMet-more s bodies centers held ps i p h old new fresh e there is room loads entry small met =
     let lt : i < length ps = slice_get_within ps i p there in

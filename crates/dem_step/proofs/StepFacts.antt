@@ -23,8 +23,9 @@ use Rattle.dem_list.specs.Ascending.{Pairs}
 use Rattle.dem_hist.specs.Carrying.{HeldByPlace}
 use Rattle.dem_plain.proofs.RunFacts.{plain_first}
 use Rattle.dem_margin.proofs.CoverFacts.{covers}
-use Rattle.dem_step.specs.Stepper.{IsStepper, IsNearList, state_at, from_of, held_by}
-use Rattle.dem_step.specs.Met.{ArePairs, HaveMet}
+use Rattle.dem_step.specs.Contacts.{ArePairs, held_by}
+use Rattle.dem_step.specs.Stepper.{state_at, IsListOfRun}
+use Rattle.dem_step.specs.Inside.{from_of, IsStepper, HaveMet}
 use Rattle.dem_step.proofs.DriftFacts.{has_before, run-moves, drifts-wider}
 use Rattle.dem_step.proofs.ListFacts.{meetings-near, meetings-agree, near-pairs}
 
@@ -66,12 +67,12 @@ plain-after s n st next plain lt ok =
 -- ---- the list in use
 
 -- a list whose step is told is in use
-in_use : (listed : Bool) (from : ℕ) (P : ℕ → Type 0) → IsSomeAnd (from_of listed from) P → (listed ≡ true) × P from
+pub in_use : (listed : Bool) (from : ℕ) (P : ℕ → Type 0) → IsSomeAnd (from_of listed from) P → (listed ≡ true) × P from
 in_use true from P h = (refl, h)
 in_use false from P h = absurd h
 
 -- a list that is near at its step covers the state where the run stands, if it isn't too old
-pub list-covers : (s : SceneValue) (drift step : ℕ) (list : Pairs) → IsSound s → plain_at s step ≡ Some (state_at s step) → IsNearList s drift list →
+pub list-covers : (s : SceneValue) (drift step : ℕ) (list : Pairs) → IsSound s → plain_at s step ≡ Some (state_at s step) → IsListOfRun s drift list →
     list.from ≤ step → step ≤ list.from + drift →
     Covers s drift (centers_of s (state_at s list.from).bodies) (centers_of s (state_at s step).bodies)
 list-covers s drift step list sound plain near past young =
@@ -81,12 +82,12 @@ list-covers s drift step list sound plain near past young =
     (drifts-wider s (step - list.from) drift _ _ (run-moves s list.from (step - list.from) (state_at s list.from) (state_at s step) near.there late) (omega arith))
 
 -- the pairs of a near list are pairs of all pairs
-pub list-pairs : (s : SceneValue) (drift : ℕ) (list : Pairs) → IsSound s → IsNearList s drift list → ArePairs s list.pairs
+pub list-pairs : (s : SceneValue) (drift : ℕ) (list : Pairs) → IsSound s → IsListOfRun s drift list → ArePairs s list.pairs
 list-pairs s drift list sound near = subst (ArePairs s) (sym near.pairs) (near-pairs s drift (centers_of s (state_at s list.from).bodies) sound)
 
 -- a list in use that may be stepped on: it is near, it is old enough and not too old, it covers the state where the run stands
 pub record IsUsable (s : SceneValue) (drift step : ℕ) (list : Pairs) : Type 0 where
-  pub near : IsNearList s drift list
+  pub near : IsListOfRun s drift list
   pub cover : Covers s drift (centers_of s (state_at s list.from).bodies) (centers_of s (state_at s step).bodies)
   pub pairs : ArePairs s list.pairs
 
@@ -99,7 +100,7 @@ usable s drift step listed bodies contacts h young =
     record {
       near = h.near used.0;
       cover = list-covers s drift step contacts.list h.scene h.plain (h.near used.0) past late;
-      pairs = list-pairs s drift contacts.list h.scene (h.near used.0);
+      pairs = h.contacts_are.pairs;
     }
 
 -- ---- the step

@@ -1,3 +1,3 @@
-pub mod Places
+pub mod Contacts
 pub mod Stepper
-pub mod Met
+pub mod Inside

@@ -1,6 +1,6 @@
 //! The meetings of a step on a list: each pair of the list once, and no other.
 
-ghost use Rattle.std.specs.Prelude.{◌≡◌, ◌+◌, ◌^◌, ◌<◌, ◌≤◌, length, IfSome, replicate};
+ghost use Rattle.std.specs.Prelude.{◌≡◌, ◌+◌, ◌^◌, ◌<◌, ◌≤◌, length, All, IfSome, replicate};
 ghost use Rattle.std.specs.Option.{option_map, unwrap_or};
 ghost use Rattle.dem_num.specs.Vectors.{widened, narrowed, no_vector, Within};
 ghost use Rattle.dem_model.specs.Motion.{AreInside, IsPair};
@@ -9,8 +9,8 @@ ghost use Rattle.dem_model.specs.Step.{meeting, no_load};
 ghost use Rattle.dem_force.specs.Loads.{AreLoads};
 ghost use Rattle.dem_force.specs.Sides.{AreSides};
 ghost use Rattle.dem_plain.specs.Run.{meeting_with};
-ghost use Rattle.dem_step.specs.Stepper.{AreWithin, held_by};
-ghost use Rattle.dem_step.specs.Met.{ArePairs, HaveMet, IsSmallMeeting, loads_after, entry_of};
+ghost use Rattle.dem_step.specs.Contacts.{ArePairs, IsStored, held_by};
+ghost use Rattle.dem_step.specs.Inside.{loads_after, displacement_of, IsSmallMeeting, HaveMet};
 
 use crate::spheres::Spheres;
 use dem_force::{add_push, push_from, touch};
@@ -36,7 +36,7 @@ pub fn meet_all<L: Ledger>(
     requires centers { AreInside shapes.now spheres.now.centers }
     requires sides { AreSides shapes.now bodies.now spheres.now.sides }
     requires pairs { ArePairs shapes.now contacts.now.list.pairs }
-    requires within { AreWithin contacts.now.entries }
+    requires within { All IsStored contacts.now.entries }
     ensures met { HaveMet shapes.now bodies.now spheres.now.centers (held_by contacts.now) contacts.now.list.pairs loads.new fresh.new }
     ensures room { length fresh.new ≡ length fresh.old }
     ensures counted { tests.new ≡ tests.old + length contacts.now.list.pairs }
@@ -76,7 +76,7 @@ fn meet<L: Ledger>(
     requires held { IfSome held (λ h. Within (widened h) (2 ^ 40)) }
     requires loads { AreLoads shapes.now loads.old }
     ensures loads { loads.new ≡ loads_after shapes.now loads.old (meeting shapes.now bodies.now spheres.now.centers pair held) }
-    ensures entry { result ≡ entry_of (meeting shapes.now bodies.now spheres.now.centers pair held) }
+    ensures entry { result ≡ displacement_of (meeting shapes.now bodies.now spheres.now.centers pair held) }
     ensures small { IsSmallMeeting (meeting shapes.now bodies.now spheres.now.centers pair held) }
     ensures counted { tests.new ≡ tests.old + 1 }
 {

@@ -4,7 +4,7 @@ ghost use Rattle.std.specs.Prelude.{◌≡◌, IfOk};
 ghost use Rattle.dem_model.specs.Centers.{centers_of};
 ghost use Rattle.dem_model.specs.Motion.{AreSound};
 ghost use Rattle.dem_force.specs.Sides.{AreSides};
-ghost use Rattle.dem_step.specs.Places.{HasPlaces};
+ghost use Rattle.dem_step.specs.Inside.{HasPlaces};
 
 use dem_force::Sides;
 use dem_model::{Body, OutOfMemory};

@@ -1,11 +1,22 @@
 //! A run that steps on lists of near pairs.
 
-ghost use Rattle.std.specs.Prelude.{◌≡◌, ◌+◌, ◌<◌, ◌≤◌, [], length, slice_get, Some, None, IfOk, IfErr, OnOk, OnErr, IfSome};
-ghost use Rattle.std.specs.Option.{is_some, IsSomeAnd};
-ghost use Rattle.dem_model.specs.Carry.{carried, Agrees};
-ghost use Rattle.dem_model.specs.Motion.{AreSound};
-ghost use Rattle.dem_model.specs.Plain.{first_state, plain_at};
-ghost use Rattle.dem_step.specs.Stepper.{IsNearList, MakesStep, held_by};
+ghost use Rattle.std.specs.Prelude.{◌≡◌, ◌+◌, ◌<◌, ◌≤◌, ◌↔◌, true, length, slice_get, Some, IfOk, IfErr, OnOk, OnErr, IfSome};
+ghost use Rattle.dem_model.specs.Carry.{Agrees};
+ghost use Rattle.dem_model.specs.Plain.{plain_at};
+ghost use Rattle.dem_model.specs.Sound.{IsBodyOf};
+ghost use Rattle.dem_model.specs.Step.{clump_at};
+ghost use Rattle.dem_margin.specs.NearList.{IsNearListOf};
+ghost use Rattle.dem_step.specs.Contacts.{AreContacts, held_by, IsHeldIn};
+ghost use Rattle.dem_step.specs.Stepper.{
+  IsSnapshotOfRun,
+  IsListOfRun,
+  IsInTime,
+  IsInUse,
+  CanStep,
+  Begins,
+  TakesList,
+  StepsOnList,
+};
 
 use crate::advancing::advance_all;
 use crate::meeting::meet_all;
@@ -37,7 +48,8 @@ pub struct Dyn<'s> {
 }
 
 impl<'s> Model for Dyn<'s> {
-    ghost use Rattle.dem_step.specs.Stepper.{Stepper, IsStepper, HasRoom, state_at, from_of};
+    ghost use Rattle.dem_step.specs.Stepper.{Stepper, state_at};
+    ghost use Rattle.dem_step.specs.Inside.{IsStepper, HasRoom, from_of};
 
     ghost Value = { Stepper };
 
@@ -50,7 +62,7 @@ impl<'s> Dyn<'s> {
     /// The run of a scene at its first state, without a list; `drift` is the greatest age of a list, in steps.
     pub fn new(alloc: Global, shapes: &'s Shapes<'s>, drift: u32) -> Result<Dyn<'s>, OutOfMemory>
         requires { drift ≤ 1024 }
-        ensures { IfOk result (λ run. run ≡ record { scene = shapes.now; drift = drift; state = first_state shapes.now; from = None; contacts = record { list = record { from = 0; pairs = [] }; entries = [] } }) }
+        ensures { IfOk result (Begins shapes.now drift) }
     {
         let scene = shapes.scene();
         Ok(Dyn {
@@ -70,10 +82,9 @@ impl<'s> Dyn<'s> {
     /// Takes a list of near pairs into use, from a step that lies no farther back than the drift limit. The old list comes
     /// back; after a refusal nothing has changed and the very list comes back.
     pub fn adopt(&mut self, list: PairList) -> Result<PairList, (PairList, OutOfMemory)>
-        requires near { IsNearList self.old.scene self.old.drift list }
-        requires past { list.from ≤ self.old.state.step }
-        requires young { self.old.state.step ≤ list.from + self.old.drift }
-        ensures carried { OnOk result (self.new ≡ record { scene = self.old.scene; drift = self.old.drift; state = self.old.state; from = Some list.from; contacts = record { list = list; entries = carried self.old.contacts.list.pairs self.old.contacts.entries list.pairs } }) }
+        requires near { IsListOfRun self.old.scene self.old.drift list }
+        requires in_time { IsInTime self.old list.from }
+        ensures taken { OnOk result (TakesList self.old list self.new) }
         ensures kept { OnOk result (Agrees self.old.scene self.old.state (held_by self.new.contacts)) }
         ensures old_list { IfOk result (λ old. old ≡ self.old.contacts.list) }
         ensures unchanged { OnErr result (self.new ≡ self.old) }
@@ -94,9 +105,8 @@ impl<'s> Dyn<'s> {
     /// Makes one step on the list in use, or tells the limit that it passes; then nothing has changed. It counts a test per
     /// pair of the list.
     pub fn step<L: Ledger>(&mut self, tests: &mut Steps<L>) -> Result<(), End>
-        requires listed { IsSomeAnd self.old.from (λ from. self.old.state.step ≤ from + self.old.drift) }
-        requires goes_on { self.old.state.step < self.old.scene.steps }
-        ensures step { MakesStep self.old self.new result }
+        requires { CanStep self.old }
+        ensures step { StepsOnList self.old self.new result }
         ensures counted { tests.new ≡ tests.old + length self.old.contacts.list.pairs }
     {
         self.spheres.fill(self.shapes, self.bodies.as_slice());
@@ -130,7 +140,7 @@ impl<'s> Dyn<'s> {
     pub fn snapshot_into(&self, snap: &mut Snapshot)
         requires { length snap.old.bodies ≡ length self.now.scene.clumps }
         ensures value { snap.new ≡ record { step = self.now.state.step; bodies = self.now.state.bodies } }
-        ensures sound { AreSound self.now.scene snap.new.bodies }
+        ensures of_run { IsSnapshotOfRun self.now.scene snap.new }
     {
         snap.step = self.step;
         for k in 0..self.bodies.len() {
@@ -146,9 +156,52 @@ impl<'s> Dyn<'s> {
         self.step
     }
 
+    /// The greatest age of a list, in steps.
+    pub fn drift(&self) -> u32
+        ensures value { result ≡ self.now.drift }
+        ensures small { result ≤ 1024 }
+    {
+        self.drift
+    }
+
+    /// Lends the table of the spheres of the scene.
+    pub fn shapes(&self) -> &'s Shapes<'s>
+        ensures { result.now ≡ self.now.scene }
+    {
+        self.shapes
+    }
+
+    /// Whether a step may be made: a list is in use, it isn't older than the drift limit, and not all steps are made.
+    pub fn can_step(&self) -> bool
+        ensures { (result ≡ true) ↔ CanStep self.now }
+    {
+        match self.list_from() {
+            Some(from) => {
+                is_in_time(from, self.now(), self.drift())
+                    && self.now() < self.shapes().scene().steps
+            }
+            None => false,
+        }
+    }
+
+    /// Whether a list isn't from later than where the run stands, and not older than the drift limit.
+    pub fn can_adopt(&self, list: &PairList) -> bool
+        ensures { (result ≡ true) ↔ IsInTime self.now list.now.from }
+    {
+        is_in_time(list.from(), self.now(), self.drift())
+    }
+
+    /// The near list of a snapshot of the plain run may be taken into use while it is in time. A law: it does nothing.
+    pub fn list_of_run(&self, snap: &Snapshot, list: &PairList)
+        requires snapshot { IsSnapshotOfRun self.now.scene snap.now }
+        requires near { IsNearListOf self.now.scene self.now.drift snap.now list.now }
+        ensures { IsListOfRun self.now.scene self.now.drift list.now }
+    {}
+
     /// The step that the list in use was made from; None where none was taken into use.
     pub fn list_from(&self) -> Option<u32>
-        ensures { result ≡ self.now.from }
+        ensures value { result ≡ self.now.from }
+        ensures in_use { IfSome result (IsInUse self.now) }
     {
         if self.listed {
             Some(self.contacts.list().from())
@@ -157,20 +210,31 @@ impl<'s> Dyn<'s> {
         }
     }
 
-    /// The body of a clump.
+    /// The body of a clump, sound for it.
     pub fn body(&self, clump: u32) -> Body
         requires { clump < length self.now.scene.clumps }
-        ensures { slice_get self.now.state.bodies clump ≡ Some result }
+        ensures value { slice_get self.now.state.bodies clump ≡ Some result }
+        ensures sound { IsBodyOf self.now.scene (clump_at self.now.scene clump) result }
     {
         *self.bodies.get(clump as usize)
     }
 
     /// Lends the list in use and what is held of its pairs.
     pub fn contacts(&self) -> &Contacts
-        ensures { result.now ≡ self.now.contacts }
+        ensures value { result.now ≡ self.now.contacts }
+        ensures sound { AreContacts self.now.scene self.now.contacts }
+        ensures agrees { Agrees self.now.scene self.now.state (held_by self.now.contacts) }
+        ensures only { IsHeldIn self.now.state (held_by self.now.contacts) }
     {
         &self.contacts
     }
+}
+
+/// Whether a step isn't later than now, and no farther back than so many steps.
+fn is_in_time(from: u32, now: u32, drift: u32) -> bool
+    ensures { (result ≡ true) ↔ (from ≤ now × now ≤ from + drift) }
+{
+    from <= now && now - from <= drift
 }
 
 /// Makes room for this many entries, and takes none away.

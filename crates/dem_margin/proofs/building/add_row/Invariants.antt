@@ -1,5 +1,5 @@
 use Rattle.std.proofs.Common.{◌≡◌}
-use Rattle.dem_margin.specs.Found.{found_in_row}
+use Rattle.dem_margin.proofs.FoundFacts.{found_in_row}
 use Rattle.dem_margin.proofs.building.add_row.Given as goal
 
 abbrev pub invariant-loop-b : goal.invariant-loop-b

@@ -1,5 +1,5 @@
 use Rattle.std.proofs.Common.{◌≡◌}
-use Rattle.dem_margin.specs.Found.{found_below}
+use Rattle.dem_margin.proofs.FoundFacts.{found_below}
 use Rattle.dem_margin.proofs.building.add_rows.Given as goal
 
 abbrev pub invariant-loop-a : goal.invariant-loop-a

@@ -7,7 +7,7 @@ use Rattle.dem_model.specs.Motion.{IsPair}
 use Rattle.dem_model.specs.Step.{held_at}
 use Rattle.dem_list.specs.Ascending.{IsAscending, Pairs}
 use Rattle.dem_hist.proofs.CarryFacts.{entry-here}
-use Rattle.dem_step.specs.Stepper.{held_by}
+use Rattle.dem_step.specs.Contacts.{held_by}
 use Rattle.dem_step.proofs.RoomFacts.{all-read, length-set}
 use Rattle.dem_step.proofs.MetFacts.{HaveMet-none, HaveMet-more, loads-met}
 use Rattle.dem_step.proofs.meeting.meet_all.Goals as goal

@@ -1,6 +1,6 @@
 use Rattle.std.proofs.Common.{◌≡◌, ◌+◌, length, take}
-use Rattle.dem_step.specs.Stepper.{held_by}
-use Rattle.dem_step.specs.Met.{HaveMet}
+use Rattle.dem_step.specs.Contacts.{held_by}
+use Rattle.dem_step.specs.Inside.{HaveMet}
 use Rattle.dem_step.proofs.meeting.meet_all.Given as goal
 
 abbrev pub invariant-loop-i : goal.invariant-loop-i

@@ -1,12 +1,11 @@
-use Rattle.std.proofs.Common.{length, None, false, sym, ap, ap₂, ◌∙◌, subst, arith}
+use Rattle.std.proofs.Common.{length, false, refl, sym, ap, ◌∙◌, subst, arith}
 use Rattle.std.proofs.lemmas.List.{length-replicate}
 use Rattle.dem_model.specs.SceneValue.{SceneValue}
 use Rattle.dem_model.specs.Plain.{first_state}
 use Rattle.dem_model.specs.Step.{no_load}
-use Rattle.dem_model.specs.declared.state.State.{State}
 use Rattle.dem_hist.specs.Carrying.{HeldByPlace}
 use Rattle.dem_plain.proofs.RunFacts.{plain_first}
-use Rattle.dem_step.specs.Stepper.{Stepper, IsStepper}
+use Rattle.dem_step.specs.Inside.{IsStepper}
 use Rattle.dem_step.proofs.StepFacts.{state_at-is}
 use Rattle.dem_step.proofs.KeptFacts.{stepper-first, first-count}
 use Rattle.dem_step.proofs.stepper.Dyn.new.Goals as goal
@@ -25,6 +24,12 @@ invariant_of-result c = (
 )
 
 pub returns : goal.returns
-returns c =
-    let view : State → HeldByPlace → Stepper = λ st contacts. record { scene = c.args.shapes.now; drift = c.args.drift; state = st; from = None; contacts = contacts } in
-    ap₂ view (state_at-is c.args.shapes.now 0 (first_state c.args.shapes.now) (plain_first c.args.shapes.now)) c.new.ensures
+returns c = record {
+  scene = refl;
+  drift_is = refl;
+  state = state_at-is c.args.shapes.now 0 (first_state c.args.shapes.now) (plain_first c.args.shapes.now);
+  from = refl;
+  list_from = ap (λ (h : HeldByPlace). h.list.from) c.new.ensures;
+  pairs = ap (λ (h : HeldByPlace). h.list.pairs) c.new.ensures;
+  entries = ap (λ (h : HeldByPlace). h.entries) c.new.ensures;
+}

@@ -1,12 +1,11 @@
 use Rattle.std.proofs.Common.{subst, ◌≡◌, ◌+◌, ◌<◌, ℕ, List, length, take, sym, ap, ap₂, ◌∙◌, arith, ◌++◌, ◌∷◌, []}
 use Rattle.std.proofs.lemmas.Option.{slice_get_within}
-use Rattle.dem_model.specs.SceneValue.{SceneValue}
-use Rattle.dem_model.specs.Motion.{AreSound}
 use Rattle.dem_model.specs.declared.state.Body.{Body}
 use Rattle.dem_shape.specs.declared.snapshot.Snapshot.{Snapshot}
-use Rattle.dem_step.specs.Stepper.{Stepper, state_at}
+use Rattle.dem_step.specs.Stepper.{Stepper, state_at, IsSnapshotOfRun}
 use Rattle.dem_step.proofs.RoomFacts.{take-set, take-next, take-whole, length-set}
 use Rattle.dem_step.proofs.StepFacts.{plain-number}
+use Rattle.dem_step.proofs.KeptFacts.{snapshot-of-run}
 use Rattle.dem_step.proofs.stepper.Dyn.snapshot_into.Goals as goal
 
 pub set-requires : goal.set-requires
@@ -40,12 +39,13 @@ returns-clause-value c =
     ∙ ap (λ (r : Stepper). r.state.step) c.self.view_is in
     ap₂ snap (c.loop-k.invariant.2 ∙ step) (bodies ∙ c.self.invariant.0.bodies_are ∙ ap (λ (r : Stepper). r.state.bodies) c.self.view_is)
 
-pub returns-clause-sound : goal.returns-clause-sound
-returns-clause-sound c =
+pub returns-clause-of_run : goal.returns-clause-of_run
+returns-clause-of_run c =
     let clumps : length c.self.inside.shapes.now.clumps ≡ length c.args.self.now.scene.clumps = ap (λ (r : Stepper). length r.scene.clumps) c.self.view_is in
     let bodies : c.loop-k.snap.bodies ≡ c.self.inside.bodies =
     sym (take-whole c.loop-k.snap.bodies c.loop-k.k (omega (arith, c.self.invariant.0.sound.count, c.loop-k.invariant.1)))
     ∙ c.loop-k.invariant.0
     ∙ take-whole c.self.inside.bodies c.loop-k.k (omega arith) in
-    subst (λ (s : SceneValue). AreSound s c.loop-k.snap.bodies) (ap (λ (r : Stepper). r.scene) c.self.view_is)
-    (subst (AreSound c.self.inside.shapes.now) (sym bodies) c.self.invariant.0.sound)
+    let step : c.loop-k.snap.step ≡ c.self.inside.step = c.loop-k.invariant.2 in
+    subst (λ (r : Stepper). IsSnapshotOfRun r.scene c.loop-k.snap) c.self.view_is
+    (snapshot-of-run c.self.inside.shapes.now c.self.inside.step c.self.inside.bodies c.loop-k.snap step bodies c.self.invariant.0.plain c.self.invariant.0.bodies_are c.self.invariant.0.sound)

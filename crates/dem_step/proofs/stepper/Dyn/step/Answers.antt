@@ -14,8 +14,9 @@ use Rattle.dem_force.specs.Loads.{AreLoads}
 use Rattle.dem_list.specs.Ascending.{Pairs}
 use Rattle.dem_hist.specs.Carrying.{HeldByPlace}
 use Rattle.dem_plain.proofs.RunFacts.{length-centers_of}
-use Rattle.dem_step.specs.Stepper.{Stepper, IsStepper, state_at, from_of, held_by}
-use Rattle.dem_step.specs.Met.{HaveMet}
+use Rattle.dem_step.specs.Contacts.{held_by}
+use Rattle.dem_step.specs.Stepper.{Stepper, state_at}
+use Rattle.dem_step.specs.Inside.{from_of, IsStepper, HaveMet}
 use Rattle.dem_step.proofs.MetFacts.{loads-met-all}
 use Rattle.dem_step.proofs.ListFacts.{kept_of-take}
 use Rattle.dem_step.proofs.StepFacts.{IsUsable, usable, about, step-made, step-ends, plain-number, next_state}
@@ -121,7 +122,7 @@ invariant_of-self g c =
         places = record { centers = ap length filled ∙ length-centers_of c.self.inside.shapes.now c.self.inside.bodies; sides = c.fill.ensures.sides.count };
         load_each = ap length (with_items_is c.self.inside.loads c.meet_all.new.loads size) ∙ load_count;
         body_each = ap length c.swap.ensures.y_after ∙ c.self.invariant.0.sound.count;
-        entry_each = omega (arith, ap (λ (h : HeldByPlace). length h.list.pairs) taken, ap length c.exchange.ensures.given, c.self.invariant.0.as_many);
+        entry_each = omega (arith, ap (λ (h : HeldByPlace). length h.list.pairs) taken, ap length c.exchange.ensures.given, c.self.invariant.0.contacts_are.as_many);
       },
     )
 
@@ -150,11 +151,11 @@ returns-in-Ok-clause-step g c =
     c.exchange.ensures.taken ∙ ap (λ (es : List (Option Vec3)). let h : HeldByPlace = record { list = c.self.inside.contacts.list; entries = take (length c.self.inside.contacts.list.pairs) es } in h) items in
     let next : state_at c.self.inside.shapes.now (c.self.inside.step + 1) ≡ next_state (c.self.inside.step + 1) c.advance_all.new.next (kept_of c.self.inside.contacts.list.pairs c.meet_all.new.fresh) =
     state-next c.self.inside.shapes.now c.self.inside.step c.advance_all.new.next (kept_of c.self.inside.contacts.list.pairs c.meet_all.new.fresh) c.self.invariant.0.plain below made in
-    let list : c.exchange.new.self.list ≡ c.self.inside.contacts.list = ap (λ (h : HeldByPlace). h.list) taken in (
-      subst (λ (r : Stepper). step_of r.scene r.state ≡ Ok (state_at c.self.inside.shapes.now (c.self.inside.step + 1))) c.self.view_is (made ∙ ap Ok (sym next)),
-      ap held_by taken ∙ kept_of-take c.self.inside.contacts.list.pairs c.meet_all.new.fresh ∙ ap (λ (x : State). x.held) (sym next),
-      list ∙ ap (λ (r : Stepper). r.contacts.list) c.self.view_is,
-      ap (λ (r : Stepper). r.scene) c.self.view_is,
-      ap (λ (r : Stepper). r.drift) c.self.view_is,
-      ap (λ (l : Pairs). from_of c.self.inside.listed l.from) list ∙ ap (λ (r : Stepper). r.from) c.self.view_is,
-    )
+    record {
+      step = subst (λ (r : Stepper). step_of r.scene r.state ≡ Ok (state_at c.self.inside.shapes.now (c.self.inside.step + 1))) c.self.view_is (made ∙ ap Ok (sym next));
+      held = ap held_by taken ∙ kept_of-take c.self.inside.contacts.list.pairs c.meet_all.new.fresh ∙ ap (λ (x : State). x.held) (sym next);
+      list = ap (λ (h : HeldByPlace). h.list) taken ∙ ap (λ (r : Stepper). r.contacts.list) c.self.view_is;
+      from = ap (λ (h : HeldByPlace). from_of c.self.inside.listed h.list.from) taken ∙ ap (λ (r : Stepper). r.from) c.self.view_is;
+      scene = ap (λ (r : Stepper). r.scene) c.self.view_is;
+      drift = ap (λ (r : Stepper). r.drift) c.self.view_is;
+    }

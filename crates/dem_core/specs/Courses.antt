@@ -1,5 +1,5 @@
 -- A run on lists as contracts see it: what holds of each, and what its calls change and write.
-use Rattle.std.specs.Prelude.{ℕ, ◌≡◌, ◌+◌, ◌<◌, ◌≤◌, true, List, [], ◌∷◌, Option, Some, None, Result, Ok, Err}
+use Rattle.std.specs.Prelude.{ℕ, ◌≡◌, ◌+◌, ◌*◌, ◌^◌, ◌<◌, ◌≤◌, true, List, [], ◌∷◌, Option, Some, None, Result, Ok, Err}
 use Rattle.std.specs.Io.KnownBytes.{Appends, Keeps}
 use Rattle.std.specs.Option.{IsSomeAnd}
 use Rattle.dem_outside.specs.Faults.{Rose}
@@ -17,6 +17,7 @@ use Rattle.dem_model.specs.declared.state.Pair.{Pair}
 use Rattle.dem_model.specs.declared.state.State.{State}
 use Rattle.dem_list.specs.Ascending.{Pairs}
 use Rattle.dem_step.specs.Contacts.{IsHeldIn}
+use Rattle.dem_step.specs.Stepper.{Stepper}
 use Rattle.dem_core.specs.TheWorld.{Course, is_open, is_past, first_course, with_list, row_with, reached_text}
 use Rattle.dem_core.specs.declared.did.WorldStop.{WorldStop}
 use Rattle.dem_core.specs.declared.did.WorldStop.TheVariants.{WriteFault, OutOfMemory}
@@ -26,6 +27,22 @@ pub record Running : Type 0 where
   pub scene : SceneValue
   pub drift : ℕ
   pub course : Course
+
+-- how far a run has come, from what is stored of it
+abbrev pub course_of : Stepper → ℕ → ℕ → Option Last → Course
+course_of run taken_at tests last = record {
+  state = run.state;
+  from = run.from;
+  pairs = run.contacts.list.pairs;
+  entries = run.contacts.entries;
+  taken_at = taken_at;
+  tests = tests;
+  last = last;
+}
+
+-- the tests of an open run fit 64 bits, with room for those of the next step
+abbrev pub IsCounted : Course → Type 0
+IsCounted c = c.last ≡ None → c.tests ≤ 2 ^ 32 * c.state.step
 
 -- ---- what holds of each
 
@@ -57,7 +74,7 @@ pub record HoldsRight (s : SceneValue) (c : Course) : Type 0 where
 
 -- a run may take a list from this step into use: it is open, and the step is later than that of the list in use, not before the one at which that was taken, and not after now
 pub record MayCollect (c : Course) (from : ℕ) : Type 0 where
-  pub open : is_open c ≡ true
+  pub goes_on : is_open c ≡ true
   pub newer : is_past c.from from ≡ true
   pub since : c.taken_at ≤ from
   pub past : from ≤ c.state.step
@@ -69,14 +86,18 @@ BeginsCourse s drift held now faults faults_now (Ok run) =
 BeginsCourse s drift held now faults faults_now (Err WriteFault) = AppendsFront held now (reached_text s (first_state s)) × Rose faults faults_now
 BeginsCourse s drift held now faults faults_now (Err OutOfMemory) = Keeps held now × (faults_now ≡ faults)
 
--- a run takes a list into use and its row is written, and the old list comes back; or the put failed; or no memory was there, nothing has changed and the very list comes back
-abbrev pub Collects : Running → Running → Pairs → (held now : Option (List ℕ)) → (faults faults_now : ℕ) → {A : Type 0} → Result A (Pairs × WorldStop) → Type 0
-Collects old new list held now faults faults_now (Ok _) =
-    (new ≡ record old { course = with_list old.course list.from list.pairs })
-    × Appends held now (taken_text (row_with old.course list.from list.pairs))
-    × (faults_now ≡ faults)
-Collects old new list held now faults faults_now (Err (_, WriteFault)) =
-    (new ≡ record old { course = with_list old.course list.from list.pairs })
+-- a list isn't taken into use with its row: the put failed, and the list is in use; or no memory was there, nothing has changed and the very list comes back
+abbrev pub Refuses : Running → Running → Pairs → (held now : Option (List ℕ)) → (faults faults_now : ℕ) → Pairs → WorldStop → Type 0
+Refuses old new list held now faults faults_now back WriteFault =
+    (new ≡ record { scene = old.scene; drift = old.drift; course = with_list old.course list.from list.pairs })
     × AppendsFront held now (taken_text (row_with old.course list.from list.pairs))
     × Rose faults faults_now
-Collects old new list held now faults faults_now (Err (back, OutOfMemory)) = (new ≡ old) × (back ≡ list) × Keeps held now × (faults_now ≡ faults)
+Refuses old new list held now faults faults_now back OutOfMemory = (new ≡ old) × (back ≡ list) × Keeps held now × (faults_now ≡ faults)
+
+-- a run takes a list into use, and its row is written; or it doesn't
+abbrev pub Collects : Running → Running → Pairs → (held now : Option (List ℕ)) → (faults faults_now : ℕ) → Result Pairs (Pairs × WorldStop) → Type 0
+Collects old new list held now faults faults_now (Ok back) =
+    (new ≡ record { scene = old.scene; drift = old.drift; course = with_list old.course list.from list.pairs })
+    × Appends held now (taken_text (row_with old.course list.from list.pairs))
+    × (faults_now ≡ faults)
+Collects old new list held now faults faults_now (Err refused) = Refuses old new list held now faults faults_now refused.0 refused.1

@@ -243,6 +243,18 @@ turn_rows s drift w turn = if enabled s drift w turn then made_rows s drift w tu
 unfoldable pub rows_text : List TakenRow → List ℕ
 rows_text rows = flat_map taken_text rows
 
+-- the tests of a turn: a step makes one for each pair in use
+unfoldable pub made_tests : World → Turn → ℕ
+made_tests w Post = 0
+made_tests w Take = 0
+made_tests w Deliver = 0
+made_tests w Collect = 0
+made_tests w Step = length w.course.pairs
+
+-- the tests of a turn
+unfoldable pub turn_tests : SceneValue → ℕ → World → Turn → ℕ
+turn_tests s drift w turn = if enabled s drift w turn then made_tests w turn else 0
+
 -- ---- turns in order
 
 -- the world after these turns

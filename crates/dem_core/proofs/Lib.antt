@@ -1,0 +1,5 @@
+pub mod EntryFacts
+pub mod OutputFacts
+pub mod CourseFacts
+pub mod SoFarFacts
+pub mod RunningFacts

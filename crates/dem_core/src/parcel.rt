@@ -1,0 +1,44 @@
+//! The parcel of the exchange: a snapshot, the buffer of a list, and where it is.
+
+ghost use Rattle.std.specs.Prelude.{◌≡◌, [], IfOk, replicate};
+ghost use Rattle.dem_model.specs.Centers.{still_body};
+ghost use Rattle.dem_core.specs.declared.parcel.Place.TheVariants.{Home};
+
+use dem_list::PairList;
+use dem_model::OutOfMemory;
+use dem_shape::Snapshot;
+use std::alloc::Global;
+
+/// Where the parcel is.
+#[derive(Clone, Copy, PartialEq, Debug)]
+pub(crate) enum Place {
+    /// At home, with nothing to say.
+    Home,
+    /// It has a snapshot that kinematics hasn't taken yet.
+    Posted,
+    /// Kinematics has it, and has no list of its snapshot yet.
+    Taken,
+    /// It has the list of its snapshot.
+    Delivered,
+}
+
+/// A snapshot, and a list or the buffer of one.
+#[derive(Drop)]
+pub(crate) struct Parcel {
+    pub(crate) place: Place,
+    pub(crate) snap: Snapshot,
+    pub(crate) list: PairList,
+}
+
+impl Parcel {
+    /// A parcel at home, with room for this many bodies.
+    pub(crate) fn new(alloc: Global, clumps: u32) -> Result<Parcel, OutOfMemory>
+        ensures { IfOk result (λ parcel. parcel ≡ record { place = Home; snap = record { step = 0; bodies = replicate clumps still_body }; list = record { from = 0; pairs = [] } }) }
+    {
+        Ok(Parcel {
+            place: Place::Home,
+            snap: Snapshot::new(alloc, clumps)?,
+            list: PairList::empty(alloc),
+        })
+    }
+}

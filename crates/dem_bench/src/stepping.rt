@@ -1,10 +1,9 @@
 //! Steps on one list of near pairs, made from the first state.
 
-ghost use Rattle.std.specs.Prelude.{◌≡◌, ◌+◌, ◌<◌, ◌≤◌, true, IfOk, OnOk};
-ghost use Rattle.std.specs.Option.{IsSomeAnd};
-ghost use Rattle.dem_step.specs.Stepper.{IsNearList};
+ghost use Rattle.std.specs.Prelude.{◌≡◌, ◌<◌, IfOk};
+ghost use Rattle.dem_step.specs.Stepper.{IsListOfRun};
 
-use crate::tally::Tally;
+use crate::tally::{Tally, touching};
 use anyhow::{Result, bail};
 use dem_list::PairList;
 use dem_margin::build_all;
@@ -26,18 +25,16 @@ pub fn run_bed(alloc: Global, scene: &Scene, wanted: u32) -> Result<Tally> {
     let Ok(mut run) = Dyn::new(alloc, &shapes, DRIFT) else {
         bail!("out of memory");
     };
-    take_list(alloc, &shapes, &mut run)?;
-    Ok(make_steps::<Brand>(&shapes, &mut run, wanted, Blank::new(1)))
+    take_list(alloc, &mut run)?;
+    Ok(make_steps::<Brand>(&mut run, wanted, Blank::new(1)))
 }
 
 /// Takes the near pairs of the run's state into use.
-fn take_list(alloc: Global, shapes: &Shapes, run: &mut Dyn) -> Result<()>
-    requires scene { run.old.scene ≡ shapes.now }
-    requires drift { run.old.drift ≡ 100 }
-    ensures scene { OnOk result (run.new.scene ≡ shapes.now) }
-    ensures drift { OnOk result (run.new.drift ≡ 100) }
-{
-    let list = near_list(alloc, shapes, run)?;
+fn take_list(alloc: Global, run: &mut Dyn) -> Result<()> {
+    let list = near_list(alloc, run)?;
+    if !run.can_adopt(&list) {
+        bail!("the list isn't in time");
+    }
     match run.adopt(list) {
         Ok(_old) => Ok(()),
         Err(_refused) => bail!("out of memory"),
@@ -45,67 +42,42 @@ fn take_list(alloc: Global, shapes: &Shapes, run: &mut Dyn) -> Result<()>
 }
 
 /// The near pairs of the run's state.
-fn near_list(alloc: Global, shapes: &Shapes, run: &Dyn) -> Result<PairList>
-    requires scene { run.now.scene ≡ shapes.now }
-    ensures near { IfOk result (λ list. IsNearList shapes.now 100 list) }
-    ensures from { IfOk result (λ list. list.from ≡ run.now.state.step) }
+fn near_list(alloc: Global, run: &Dyn) -> Result<PairList>
+    ensures { IfOk result (IsListOfRun run.now.scene run.now.drift) }
 {
-    let clumps = shapes.scene().clumps.len() as u32;
-    let Ok(mut snap) = Snapshot::new(alloc, clumps) else {
+    let shapes = run.shapes();
+    let Ok(mut snap) = Snapshot::new(alloc, shapes.scene().clumps.len() as u32) else {
         bail!("out of memory");
     };
-    let _now = run.now();
     run.snapshot_into(&mut snap);
-    match build_all(alloc, shapes, &snap, DRIFT, PairList::empty(alloc)) {
-        Ok(list) => Ok(list),
+    match build_all(alloc, shapes, &snap, run.drift(), PairList::empty(alloc)) {
+        Ok(list) => {
+            run.list_of_run(&snap, &list);
+            Ok(list)
+        }
         Err(_refused) => bail!("out of memory"),
     }
 }
 
-/// Makes the steps.
-fn make_steps<L: Ledger>(shapes: &Shapes, run: &mut Dyn, wanted: u32, blank: Blank) -> Tally
+/// Makes the steps, while the scene has more and the list isn't too old.
+fn make_steps<L: Ledger>(run: &mut Dyn, wanted: u32, blank: Blank) -> Tally
     requires name { blank.name ≡ L.name }
     requires parts { blank.parts ≡ L.parts }
     requires some { 0 < L.parts }
-    requires scene { run.old.scene ≡ shapes.now }
-    requires drift { run.old.drift ≡ 100 }
 {
     let mut tests = Steps::<L>::new(blank);
-    let mut tally = nothing_done(shapes, run);
+    let mut end = None;
     for _ in 0..wanted {
-        if !goes_on(shapes, run) {
-            return tally;
+        if end.is_some() || !run.can_step() {
+            break;
         }
-        if let Err(end) = run.step(&mut tests) {
-            tally.end = Some(end);
-            return tally;
-        }
-        tally.add(run.contacts());
+        end = run.step(&mut tests).err();
     }
-    tally
-}
-
-/// What was done before the first step.
-fn nothing_done(shapes: &Shapes, run: &Dyn) -> Tally {
     Tally {
-        spheres: shapes.spheres(),
+        spheres: run.shapes().spheres(),
         pairs: run.contacts().list().len(),
-        steps: 0,
-        contacts: 0,
-        end: None,
-    }
-}
-
-/// Whether the scene has a next step, and the list isn't too old for it.
-fn goes_on(shapes: &Shapes, run: &Dyn) -> bool
-    requires scene { run.now.scene ≡ shapes.now }
-    requires drift { run.now.drift ≡ 100 }
-    ensures listed { result ≡ true → IsSomeAnd run.now.from (λ from. run.now.state.step ≤ from + run.now.drift) }
-    ensures goes_on { result ≡ true → run.now.state.step < run.now.scene.steps }
-{
-    let now = run.now();
-    match run.list_from() {
-        Some(from) => now < shapes.scene().steps && now.saturating_sub(from) <= DRIFT,
-        None => false,
+        steps: run.now(),
+        contacts: touching(run.contacts()),
+        end,
     }
 }

@@ -4,8 +4,8 @@ use dem_hist::Contacts;
 use dem_model::End;
 use std::fmt;
 
-/// What was done: how many spheres and listed pairs there are, the steps made, the sum over them of the pairs that touch, and
-/// the limit that stopped them.
+/// What was done: how many spheres and listed pairs there are, the steps made, the pairs that touch after the last one, and the
+/// limit that stopped them.
 #[derive(Clone, Copy, PartialEq, Debug)]
 pub struct Tally {
     pub spheres: u32,
@@ -15,16 +15,8 @@ pub struct Tally {
     pub end: Option<End>,
 }
 
-impl Tally {
-    /// Counts a step, and the pairs that touch after it.
-    pub fn add(&mut self, contacts: &Contacts) {
-        self.steps = self.steps.saturating_add(1);
-        self.contacts = self.contacts.saturating_add(touching(contacts));
-    }
-}
-
 /// How many pairs of the list touch.
-fn touching(contacts: &Contacts) -> u64 {
+pub fn touching(contacts: &Contacts) -> u64 {
     let mut count = 0u64;
     for i in 0..contacts.list().len() {
         if contacts.held(i).is_some() {
@@ -38,7 +30,7 @@ impl fmt::Display for Tally {
     fn fmt<W: fmt::Write>(&self, f: &mut fmt::Formatter<W>) -> fmt::Result {
         write!(
             f,
-            "{} spheres, list of {} pairs, {} steps, {} contact-steps",
+            "{} spheres, list of {} pairs, {} steps, {} contacts at the last",
             self.spheres, self.pairs, self.steps, self.contacts
         )?;
         match self.end {

@@ -1,6 +1,7 @@
 pub mod AdvanceFacts
 pub mod CenteredFacts
 pub mod LimitFacts
+pub mod MeetingFacts
 pub mod MixFacts
 pub mod RangeFacts
 pub mod SideFacts

@@ -1,5 +1,5 @@
 -- What the square of a length says of it, and torques of forces without a lever.
-use Rattle.std.proofs.Common.{◌≡◌, ℕ, ℤ, pos, ◌+◌, ◌*◌, ◌^◌, ◌<◌, ◌≤◌, arith, true, refl, ap, ◌∙◌, inl, inr}
+use Rattle.std.proofs.Common.{◌≡◌, ℕ, ℤ, pos, ◌+◌, ◌*◌, ◌^◌, ◌<◌, ◌≤◌, arith, true, false, refl, ap, ◌∙◌, inl, inr}
 use Rattle.std.specs.Prelude.{nat_lt, nat_le}
 use Rattle.std.proofs.lemmas.Bool.{cases_lt}
 use Rattle.std.proofs.lemmas.Bool.Decides.{nat_tests}
@@ -28,6 +28,13 @@ root_within x b = elim (cases_lt x ((b + 1) * (b + 1))) [
 -- the length of a force is at most what no force is longer than
 pub root_in_all : (a : Wide3) (b : ℕ) → Within a (2 ^ 62) → 2 ^ 63 ≤ b → nat_le (root_of (norm2_of a)) b ≡ true
 root_in_all a b h l =
+    let most : norm2_of a ≤ 3 * (2 ^ 62 * 2 ^ 62) = norm2_le a (2 ^ 62) h in
+    let small : root_of (norm2_of a) ≤ 2 ^ 63 = root_le (norm2_of a) (2 ^ 63) (omega arith) in
+    grind (arith, nat_tests)
+
+-- a bound that a force passes is less than what no force is longer than
+pub passed_below : (a : Wide3) (b : ℕ) → Within a (2 ^ 62) → nat_le (root_of (norm2_of a)) b ≡ false → b < 2 ^ 63
+passed_below a b h e =
     let most : norm2_of a ≤ 3 * (2 ^ 62 * 2 ^ 62) = norm2_le a (2 ^ 62) h in
     let small : root_of (norm2_of a) ≤ 2 ^ 63 = root_le (norm2_of a) (2 ^ 63) (omega arith) in
     grind (arith, nat_tests)

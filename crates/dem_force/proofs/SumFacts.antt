@@ -8,10 +8,9 @@ use Rattle.dem_num.specs.Vectors.{opposed}
 use Rattle.dem_model.specs.SceneValue.{SceneValue}
 use Rattle.dem_model.specs.Motion.{IsPair}
 use Rattle.dem_model.specs.Pairs.{sphere_count, sphere_at, apart}
-use Rattle.dem_model.specs.Step.{Meeting, no_load, load_plus, first_clump, is_second, load_with}
+use Rattle.dem_model.specs.Step.{Meeting, no_load, load_plus, first_clump, is_second, load_with, loads_with}
 use Rattle.dem_model.specs.declared.law.Load.{Load}
 use Rattle.dem_model.specs.declared.state.Pair.{Pair}
-use Rattle.dem_model.proofs.LoadFacts.{loads_with}
 
 -- the two spheres of a pair are of two clumps
 pub two_clumps : (s : SceneValue) (p : Pair) → IsPair s p → p.b < sphere_count s → (sphere_at s p.a).clump ≢ (sphere_at s p.b).clump

@@ -10,9 +10,9 @@ use Rattle.dem_model.specs.SceneValue.{SceneValue}
 use Rattle.dem_model.specs.Position.{in_voxels, in_box}
 use Rattle.dem_model.specs.Sound.{IsSound, IsForm, IsWall, IsBetween, EachBetween, IsTemplate, IsBodyOf}
 use Rattle.dem_model.specs.Ranges.{IsWallFor}
-use Rattle.dem_model.specs.Motion.{IsSphere, AreSound}
+use Rattle.dem_model.specs.Motion.{AreSound}
 use Rattle.dem_model.specs.Centers.{body_at}
-use Rattle.dem_model.specs.Pairs.{sphere_at}
+use Rattle.dem_model.specs.Pairs.{sphere_at, sphere_count}
 use Rattle.dem_model.specs.Advance.{mass_of}
 use Rattle.dem_model.specs.Step.{clump_at, clump_of_sphere, no_clump}
 use Rattle.dem_model.specs.declared.limits.TheConstants.{MAX_VOXELS, VOXEL, MAX_POINT}
@@ -23,6 +23,7 @@ use Rattle.dem_model.specs.declared.shape.Form.TheVariants.{Plane, Cylinder}
 use Rattle.dem_model.specs.declared.shape.Wall.{Wall}
 use Rattle.dem_model.specs.declared.state.Body.{Body}
 use Rattle.dem_model.specs.declared.state.Clump.{Clump}
+use Rattle.dem_model.proofs.SoundFacts.{sphere_at-narrower}
 use Rattle.dem_shape.proofs.PoseFacts.{body_read}
 use Rattle.dem_num.specs.declared.vector.Wide3.{Wide3}
 use Rattle.dem_num.specs.Numbers.{root_of}
@@ -69,8 +70,9 @@ form_for : (r : ℕ) (templates : List Template) →
 form_for r templates narrower (Plane at dir) h = h
 form_for r templates narrower (Cylinder axis at radius) h = (h.0, narrower radius h.2, h.1.le_high)
 
-pub wall_for : (s : SceneValue) (i m : ℕ) (w : Wall) → IsSphere s (sphere_at s i) → IsWall m s.templates w → IsWallFor (sphere_at s i).ball.r w.form
-wall_for s i m w sphere wall = form_for (sphere_at s i).ball.r s.templates sphere.narrower w.form wall.form
+pub wall_for : (s : SceneValue) (i m : ℕ) (w : Wall) → IsSound s → i < sphere_count s → IsWall m s.templates w → IsWallFor (sphere_at s i).ball.r w.form
+wall_for s i m w sound there wall =
+    form_for (sphere_at s i).ball.r s.templates (λ radius all. sphere_at-narrower s i radius sound there all) w.form wall.form
 
 -- the mass that is read through a sphere's clump and its template
 pub mass_read : (s : SceneValue) (i k : ℕ) (c : Clump) (x : Template) → k ≡ (sphere_at s i).clump →

@@ -5,7 +5,7 @@ ghost use Rattle.dem_num.specs.Numbers.{AtMost};
 ghost use Rattle.dem_model.specs.Ranges.{IsFirst, IsLaw};
 ghost use Rattle.dem_model.specs.Sound.{IsFrom};
 
-use crate::limits::is_over;
+use crate::advancing::limits::is_over;
 use crate::*;
 use dem_model::Material;
 use dem_num::{Vec3, Wide3};

@@ -14,38 +14,38 @@ field_at-drop (g ∷ fs) zero f there = cc
 field_at-drop (g ∷ fs) (suc i) f there = field_at-drop fs i f there
 
 -- the numbers before a place, and those from there on, where they can be read
-pub record Reads (front : List ℤ) (rest fields : List (List ℕ)) : Type 0 where
-  pub same : option_map (λ zs. front ++ zs) (numbers_of rest) ≡ numbers_of fields
+pub record Reads (frame : List ℤ) (rest fields : List (List ℕ)) : Type 0 where
+  pub same : option_map (λ zs. frame ++ zs) (numbers_of rest) ≡ numbers_of fields
 
 option_map-id : (o : Option (List ℤ)) → option_map (λ zs. [] ++ zs) o ≡ o
 option_map-id None = refl
 option_map-id (Some zs) = refl
 
-option_map-more : (front : List ℤ) (z : ℤ) (o : Option (List ℤ))
-    → option_map (λ zs. (front ++ z ∷ []) ++ zs) o ≡ option_map (λ zs. front ++ zs) (option_map (λ zs. z ∷ zs) o)
-option_map-more front z None = refl
-option_map-more front z (Some zs) = ap (λ (l : List ℤ). Some l) (append_assoc front (z ∷ []) zs)
+option_map-more : (frame : List ℤ) (z : ℤ) (o : Option (List ℤ))
+    → option_map (λ zs. (frame ++ z ∷ []) ++ zs) o ≡ option_map (λ zs. frame ++ zs) (option_map (λ zs. z ∷ zs) o)
+option_map-more frame z None = refl
+option_map-more frame z (Some zs) = ap (λ (l : List ℤ). Some l) (append_assoc frame (z ∷ []) zs)
 
 pub Reads-start : (fields : List (List ℕ)) → Reads [] fields fields
 Reads-start fields = record { same = option_map-id (numbers_of fields) }
 
-pub Reads-more : (front : List ℤ) (fields row : List (List ℕ)) (i : ℕ) (f : List ℕ) (z : ℤ) → Reads front (drop i row) fields → field_at row i ≡ Some f → number_of f ≡ Some z
-    → Reads (front ++ z ∷ []) (drop (i + 1) row) fields
+pub Reads-more : (frame : List ℤ) (fields row : List (List ℕ)) (i : ℕ) (f : List ℕ) (z : ℤ) → Reads frame (drop i row) fields → field_at row i ≡ Some f → number_of f ≡ Some z
+    → Reads (frame ++ z ∷ []) (drop (i + 1) row) fields
 unfolding numbers_of
-Reads-more front fields row i f z before there is =
+Reads-more frame fields row i f z before there is =
     let e = field_at-drop row i f there in
-    record { same = rw add-one (option_map-more front z (numbers_of (drop (suc i) row)) ∙ (let b = rw (e, is) at before.same in b)) }
+    record { same = rw add-one (option_map-more frame z (numbers_of (drop (suc i) row)) ∙ (let b = rw (e, is) at before.same in b)) }
 
-pub Reads-none : (front : List ℤ) (fields row : List (List ℕ)) (i : ℕ) (f : List ℕ) → Reads front (drop i row) fields → field_at row i ≡ Some f → number_of f ≡ None → numbers_of fields ≡ None
+pub Reads-none : (frame : List ℤ) (fields row : List (List ℕ)) (i : ℕ) (f : List ℕ) → Reads frame (drop i row) fields → field_at row i ≡ Some f → number_of f ≡ None → numbers_of fields ≡ None
 unfolding numbers_of
-Reads-none front fields row i f before there is =
+Reads-none frame fields row i f before there is =
     let e = field_at-drop row i f there in
     let b = rw (e, is) at before.same in sym b
 
-pub Reads-all : (front : List ℤ) (fields row : List (List ℕ)) (i : ℕ) → length row ≤ i → Reads front (drop i row) fields → numbers_of fields ≡ Some front
+pub Reads-all : (frame : List ℤ) (fields row : List (List ℕ)) (i : ℕ) → length row ≤ i → Reads frame (drop i row) fields → numbers_of fields ≡ Some frame
 unfolding numbers_of
-Reads-all front fields row i past before =
-    let b = rw (drop_all i row past) at before.same in sym b ∙ ap (λ (l : List ℤ). Some l) (append-nil front)
+Reads-all frame fields row i past before =
+    let b = rw (drop_all i row past) at before.same in sym b ∙ ap (λ (l : List ℤ). Some l) (append-nil frame)
 
 and_second : (a b : Bool) → (a && b) ≡ true → b ≡ true
 and_second true b e = e

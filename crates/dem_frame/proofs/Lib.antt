@@ -2,7 +2,7 @@ pub mod RowFacts
 pub mod StateFacts
 pub mod NumberFacts
 pub mod FieldFacts
-pub mod FrontFacts
+pub mod PartialFacts
 pub mod DecimalFacts
 pub mod LineFacts
 pub mod ReadOnFacts

@@ -58,17 +58,17 @@ unfolding next_record
 no_record = refl
 
 -- what was read of a text of lines are the first of its lines
-pub lines_front : (rows all : List (List (List ℕ))) (text ys : List ℕ) (s : State) → Lines text all → Reached default_config st.StartRecord text rows s ys
+pub lines_before : (rows all : List (List (List ℕ))) (text ys : List ℕ) (s : State) → Lines text all → Reached default_config st.StartRecord text rows s ys
     → (more : List (List (List ℕ))) × (all ≡ rows ++ more) × (s ≡ st.StartRecord) × Lines ys more
 unfolding Lines Reached
-lines_front [] all text ys s lines read = (all, refl, sym read.0, subst (λ (t : List ℕ). Lines t all) read.1 lines)
-lines_front (r ∷ rs) [] text ys s lines read =
+lines_before [] all text ys s lines read = (all, refl, sym read.0, subst (λ (t : List ℕ). Lines t all) read.1 lines)
+lines_before (r ∷ rs) [] text ys s lines read =
     let e = rw lines at read.1 in
     let none : next_record default_config st.StartRecord [] [] [] ≡ None = no_record in cc
-lines_front (r ∷ rs) (a ∷ behind) text ys s lines read =
+lines_before (r ∷ rs) (a ∷ behind) text ys s lines read =
     let same : read.0 ≡ (a, st.StartRecord, lines.0) = same_Some read.0 (a, st.StartRecord, lines.0) (sym read.1 ∙ lines.1) in
     let first : r ≡ a = read.2 ∙ ap (λ (p : Read). p.0) same in
-    let rest = lines_front rs behind lines.0 ys s lines.2 (subst (λ (p : Read). Reached default_config p.1 p.2 rs s ys) same read.3) in
+    let rest = lines_before rs behind lines.0 ys s lines.2 (subst (λ (p : Read). Reached default_config p.1 p.2 rs s ys) same read.3) in
     (rest.0, rw first (ap (λ (l : List (List (List ℕ))). a ∷ l) rest.1), rest.2, rest.3)
 
 -- at the end no line is left
@@ -80,6 +80,6 @@ lines_end (r ∷ rs) text lines ends = let e = sym lines.1 ∙ ends in cc
 -- the records of a text of lines are its lines
 pub lines_all : (rows all : List (List (List ℕ))) (text : List ℕ) → Lines text all → AreRecords default_config st.StartRecord text rows → all ≡ rows
 lines_all rows all text lines read =
-    let front = lines_front rows all text read.1 read.0 lines read.2 in
-    let none = lines_end front.0 read.1 front.3 (rw front.2 at read.3) in
-    front.1 ∙ ap (λ (l : List (List (List ℕ))). rows ++ l) none ∙ append-nil rows
+    let frame = lines_before rows all text read.1 read.0 lines read.2 in
+    let none = lines_end frame.0 read.1 frame.3 (rw frame.2 at read.3) in
+    frame.1 ∙ ap (λ (l : List (List (List ℕ))). rows ++ l) none ∙ append-nil rows

@@ -12,19 +12,19 @@ use Rattle.dem_model.specs.declared.state.Body.{Body}
 use Rattle.dem_model.specs.declared.state.Held.{Held}
 use Rattle.dem_model.specs.declared.state.State.{State}
 use Rattle.dem_frame.specs.Records.{continues}
-use Rattle.dem_frame.specs.Fronts.{first_front, read_on, with_record, with_head, with_body, last_of, whole_frame, ReadsFrame}
+use Rattle.dem_frame.specs.PartialFrames.{nothing_read, read_on, with_record, with_head, with_body, last_held, whole_frame, ReadsFrame}
 use Rattle.dem_frame.specs.ReadBack.{FitEach, BodyFits, body_numbers, IsOrdered, IsStored, Ascends, IsWritable, GivesState, ReadsBack}
-use Rattle.dem_frame.specs.declared.front.Front.{Front}
-use Rattle.dem_frame.specs.declared.front.FrameFault.{FrameFault}
-use Rattle.dem_frame.specs.declared.front.FrameFault.TheVariants.{Bad, Short, OutOfMemory}
-use Rattle.dem_frame.proofs.LineFacts.{Lines, Lines-row, Lines-none, lines_front, lines_all}
+use Rattle.dem_frame.specs.declared.partial.PartialFrame.{PartialFrame}
+use Rattle.dem_frame.specs.declared.partial.FrameFault.{FrameFault}
+use Rattle.dem_frame.specs.declared.partial.FrameFault.TheVariants.{Bad, Short, OutOfMemory}
+use Rattle.dem_frame.proofs.LineFacts.{Lines, Lines-row, Lines-none, lines_before, lines_all}
 use Rattle.dem_frame.proofs.ReadOnFacts.{fits_small, all_first, all_behind, head_fields, clump_fields, pair_fields, pair_fit, head_reads, clump_reads, pair_reads}
 
 -- ---- the records of a state
 
 -- what was read of a frame: the head, these bodies and these pairs
-abbrev front_of : ℕ → List Body → List Held → Front
-front_of step bodies held = record { step = Some step; bodies = bodies; held = held }
+abbrev read_so_far : ℕ → List Body → List Held → PartialFrame
+read_so_far step bodies held = record { step = Some step; bodies = bodies; held = held }
 
 -- the records of these clumps, numbered from i on
 unfoldable clump_rows : ℕ → List Body → List (List (List ℕ))
@@ -74,49 +74,49 @@ no_mark s = refl
 
 -- ---- what they read as
 
-with_its_head : (clumps step : ℕ) → step ≤ 1000000000 → with_record clumps first_front (head_fields step) ≡ Some (front_of step [] [])
+with_its_head : (clumps step : ℕ) → step ≤ 1000000000 → with_record clumps nothing_read (head_fields step) ≡ Some (read_so_far step [] [])
 unfolding with_head
 with_its_head clumps step within = rw (head_reads step within) refl
 
 with_a_clump : (clumps step : ℕ) (bodies : List Body) (b : Body) → length bodies < clumps → clumps ≤ 16384 → BodyFits b
-    → with_record clumps (front_of step bodies []) (clump_fields (length bodies) b) ≡ Some (front_of step (bodies ++ b ∷ []) [])
+    → with_record clumps (read_so_far step bodies []) (clump_fields (length bodies) b) ≡ Some (read_so_far step (bodies ++ b ∷ []) [])
 unfolding with_head with_body
 with_a_clump clumps step bodies b missing few fit = rw (lt-ltb (length bodies) clumps missing, clump_reads (length bodies) b (omega arith) fit) refl
 
 with_a_pair : (clumps step : ℕ) (bodies : List Body) (held : List Held) (e : Held) → clumps ≤ length bodies → IsOrdered e → IsStored e
-    → continues (last_of held) e.pair ≡ true → with_record clumps (front_of step bodies held) (pair_fields e) ≡ Some (front_of step bodies (held ++ e ∷ []))
+    → continues (last_held held) e.pair ≡ true → with_record clumps (read_so_far step bodies held) (pair_fields e) ≡ Some (read_so_far step bodies (held ++ e ∷ []))
 unfolding with_head with_body
-with_a_pair clumps step bodies held e all order small after = rw (le-ltb (length bodies) clumps all, pair_reads (last_of held) e order small after) refl
+with_a_pair clumps step bodies held e all order small after = rw (le-ltb (length bodies) clumps all, pair_reads (last_held held) e order small after) refl
 
-clumps_read : (clumps step : ℕ) (front behind : List Body) (more : List (List (List ℕ))) → length front + length behind ≤ clumps → clumps ≤ 16384
+clumps_read : (clumps step : ℕ) (frame behind : List Body) (more : List (List (List ℕ))) → length frame + length behind ≤ clumps → clumps ≤ 16384
     → All BodyFits behind
-    → read_on clumps (front_of step front []) (clump_rows (length front) behind ++ more) ≡ read_on clumps (front_of step (front ++ behind) []) more
+    → read_on clumps (read_so_far step frame []) (clump_rows (length frame) behind ++ more) ≡ read_on clumps (read_so_far step (frame ++ behind) []) more
 unfolding read_on clump_rows
-clumps_read clumps step front [] more room few fit = rw (append-nil front) refl
-clumps_read clumps step front (b ∷ bs) more room few fit =
-    let size : length (front ++ b ∷ []) ≡ length front + 1 = length-append front (b ∷ []) in
-    let next = clumps_read clumps step (front ++ b ∷ []) bs more (omega arith) few (all_behind BodyFits b bs fit) in
-    rw (with_a_clump clumps step front b (omega arith) few (all_first BodyFits b bs fit)) (rw (size, append_assoc front (b ∷ []) bs) at next)
+clumps_read clumps step frame [] more room few fit = rw (append-nil frame) refl
+clumps_read clumps step frame (b ∷ bs) more room few fit =
+    let size : length (frame ++ b ∷ []) ≡ length frame + 1 = length-append frame (b ∷ []) in
+    let next = clumps_read clumps step (frame ++ b ∷ []) bs more (omega arith) few (all_behind BodyFits b bs fit) in
+    rw (with_a_clump clumps step frame b (omega arith) few (all_first BodyFits b bs fit)) (rw (size, append_assoc frame (b ∷ []) bs) at next)
 
 -- the last of a list that was pushed to
-last_pushed : (held : List Held) (e : Held) → last_of (held ++ e ∷ []) ≡ Some e
+last_pushed : (held : List Held) (e : Held) → last_held (held ++ e ∷ []) ≡ Some e
 last_pushed held e =
     let size : length (held ++ e ∷ []) ≡ length held + 1 = length-append held (e ∷ []) in
     let place : length (held ++ e ∷ []) - 1 ≡ length held = omega arith in
     rw place (slice_get-get_or (held ++ e ∷ []) (length held) e (omega arith) ∙ ap (λ (x : Held). Some x) (get_or-append_seam held e [] e))
 
-pairs_read : (clumps step : ℕ) (bodies : List Body) (front behind : List Held) → clumps ≤ length bodies → All IsOrdered behind
-    → All IsStored behind → Ascends (last_of front) behind
-    → read_on clumps (front_of step bodies front) (pair_rows behind) ≡ Some (front_of step bodies (front ++ behind))
+pairs_read : (clumps step : ℕ) (bodies : List Body) (frame behind : List Held) → clumps ≤ length bodies → All IsOrdered behind
+    → All IsStored behind → Ascends (last_held frame) behind
+    → read_on clumps (read_so_far step bodies frame) (pair_rows behind) ≡ Some (read_so_far step bodies (frame ++ behind))
 unfolding read_on pair_rows Ascends
-pairs_read clumps step bodies front [] all ordered stored after = rw (append-nil front) refl
-pairs_read clumps step bodies front (e ∷ es) all ordered stored after =
-    let rest : Ascends (last_of (front ++ e ∷ [])) es = rw (last_pushed front e) after.1 in
-    let next = pairs_read clumps step bodies (front ++ e ∷ []) es all (all_behind IsOrdered e es ordered) (all_behind IsStored e es stored) rest in
-    rw (with_a_pair clumps step bodies front e all (all_first IsOrdered e es ordered) (all_first IsStored e es stored) after.0) (rw (append_assoc front (e ∷ []) es) at next)
+pairs_read clumps step bodies frame [] all ordered stored after = rw (append-nil frame) refl
+pairs_read clumps step bodies frame (e ∷ es) all ordered stored after =
+    let rest : Ascends (last_held (frame ++ e ∷ [])) es = rw (last_pushed frame e) after.1 in
+    let next = pairs_read clumps step bodies (frame ++ e ∷ []) es all (all_behind IsOrdered e es ordered) (all_behind IsStored e es stored) rest in
+    rw (with_a_pair clumps step bodies frame e all (all_first IsOrdered e es ordered) (all_first IsStored e es stored) after.0) (rw (append_assoc frame (e ∷ []) es) at next)
 
 -- the records of a state read as its parts
-state_reads : (s : State) (clumps : ℕ) → IsWritable s → clumps ≡ length s.bodies → read_on clumps first_front (state_rows s) ≡ Some (front_of s.step s.bodies s.held)
+state_reads : (s : State) (clumps : ℕ) → IsWritable s → clumps ≡ length s.bodies → read_on clumps nothing_read (state_rows s) ≡ Some (read_so_far s.step s.bodies s.held)
 unfolding read_on
 state_reads s clumps is all =
     let few = is.few in
@@ -124,28 +124,28 @@ state_reads s clumps is all =
     (clumps_read clumps s.step [] s.bodies (pair_rows s.held) (omega arith) (omega arith) is.bodies
     ∙ pairs_read clumps s.step s.bodies [] s.held (omega arith) is.ordered is.stored is.ascending)
 
-whole_state : (s : State) (clumps : ℕ) → clumps ≡ length s.bodies → whole_frame clumps (front_of s.step s.bodies s.held) ≡ Some s
+whole_state : (s : State) (clumps : ℕ) → clumps ≡ length s.bodies → whole_frame clumps (read_so_far s.step s.bodies s.held) ≡ Some s
 unfolding whole_frame
 whole_state s clumps all = rw (le-ltb (length s.bodies) clumps (omega arith)) refl
 
 -- ---- the frame as a whole
 
 -- the records behind those that were read
-read_on-behind : (clumps : ℕ) (o : Option Front) (rows more : List (List (List ℕ))) → ((n : Front) → read_on clumps n (rows ++ more) ≡ option_and_then (λ m. read_on clumps m more) (read_on clumps n rows))
+read_on-behind : (clumps : ℕ) (o : Option PartialFrame) (rows more : List (List (List ℕ))) → ((n : PartialFrame) → read_on clumps n (rows ++ more) ≡ option_and_then (λ m. read_on clumps m more) (read_on clumps n rows))
     → option_and_then (λ n. read_on clumps n (rows ++ more)) o ≡ option_and_then (λ m. read_on clumps m more) (option_and_then (λ n. read_on clumps n rows) o)
 read_on-behind clumps None rows more each = refl
 read_on-behind clumps (Some n) rows more each = each n
 
-read_on-append : (clumps : ℕ) (front : Front) (rows more : List (List (List ℕ))) → read_on clumps front (rows ++ more) ≡ option_and_then (λ m. read_on clumps m more) (read_on clumps front rows)
+read_on-append : (clumps : ℕ) (frame : PartialFrame) (rows more : List (List (List ℕ))) → read_on clumps frame (rows ++ more) ≡ option_and_then (λ m. read_on clumps m more) (read_on clumps frame rows)
 unfolding read_on
-read_on-append clumps front [] more = refl
-read_on-append clumps front (row ∷ rows) more = read_on-behind clumps (with_record clumps front row) rows more (λ n. read_on-append clumps n rows more)
+read_on-append clumps frame [] more = refl
+read_on-append clumps frame (row ∷ rows) more = read_on-behind clumps (with_record clumps frame row) rows more (λ n. read_on-append clumps n rows more)
 
 -- where all records are read, none of them is bad
-none_bad : (clumps : ℕ) (first front whole : Front) (rows more : List (List (List ℕ))) (fields : List (List ℕ)) → read_on clumps first (rows ++ (fields ∷ more)) ≡ Some whole
-    → read_on clumps first rows ≡ Some front → with_record clumps front fields ≡ None → ⊥
+none_bad : (clumps : ℕ) (first frame whole : PartialFrame) (rows more : List (List (List ℕ))) (fields : List (List ℕ)) → read_on clumps first (rows ++ (fields ∷ more)) ≡ Some whole
+    → read_on clumps first rows ≡ Some frame → with_record clumps frame fields ≡ None → ⊥
 unfolding read_on
-none_bad clumps first front whole rows more fields all before bad =
+none_bad clumps first frame whole rows more fields all before bad =
     let e = sym all ∙ read_on-append clumps first rows (fields ∷ more) in
     let none = rw (before, bad) at e in cc
 
@@ -155,18 +155,18 @@ gives_state : (s : State) (text : List ℕ) (clumps : ℕ) (result : Result Stat
 gives_state s text clumps (Ok read) is same all reads =
     let lines = lines_all reads.0 (state_rows s) (state_text s) (lines_state s is) (rw (same, no_mark s) at reads.1) in
     let parts = rw (← lines) at reads.3 in
-    let front : reads.2 ≡ front_of s.step s.bodies s.held = same_Some reads.2 (front_of s.step s.bodies s.held) (sym parts ∙ state_reads s clumps is all) in
-    same_Some read s (sym reads.4 ∙ ap (λ (f : Front). whole_frame clumps f) front ∙ whole_state s clumps all)
+    let frame : reads.2 ≡ read_so_far s.step s.bodies s.held = same_Some reads.2 (read_so_far s.step s.bodies s.held) (sym parts ∙ state_reads s clumps is all) in
+    same_Some read s (sym reads.4 ∙ ap (λ (f : PartialFrame). whole_frame clumps f) frame ∙ whole_state s clumps all)
 gives_state s text clumps (Err (Bad row)) is same all reads =
     let reached = rw (same, no_mark s) at reads.3.2 in
-    let lines = lines_front (reads.0 ++ reads.1 ∷ []) (state_rows s) (state_text s) reads.3.1 reads.3.0 (lines_state s is) reached in
+    let lines = lines_before (reads.0 ++ reads.1 ∷ []) (state_rows s) (state_text s) reads.3.1 reads.3.0 (lines_state s is) reached in
     let rows : state_rows s ≡ reads.0 ++ (reads.1 ∷ lines.0) = lines.1 ∙ append_assoc reads.0 (reads.1 ∷ []) lines.0 in
-    none_bad clumps first_front reads.2 (front_of s.step s.bodies s.held) reads.0 lines.0 reads.1 (rw rows at (state_reads s clumps is all)) reads.4 reads.5
+    none_bad clumps nothing_read reads.2 (read_so_far s.step s.bodies s.held) reads.0 lines.0 reads.1 (rw rows at (state_reads s clumps is all)) reads.4 reads.5
 gives_state s text clumps (Err (Short n)) is same all reads =
     let lines = lines_all reads.0 (state_rows s) (state_text s) (lines_state s is) (rw (same, no_mark s) at reads.1) in
     let parts = rw (← lines) at reads.3 in
-    let front : reads.2 ≡ front_of s.step s.bodies s.held = same_Some reads.2 (front_of s.step s.bodies s.held) (sym parts ∙ state_reads s clumps is all) in
-    let none = sym reads.4 ∙ ap (λ (f : Front). whole_frame clumps f) front ∙ whole_state s clumps all in cc
+    let frame : reads.2 ≡ read_so_far s.step s.bodies s.held = same_Some reads.2 (read_so_far s.step s.bodies s.held) (sym parts ∙ state_reads s clumps is all) in
+    let none = sym reads.4 ∙ ap (λ (f : PartialFrame). whole_frame clumps f) frame ∙ whole_state s clumps all in cc
 gives_state s text clumps (Err OutOfMemory) is same all reads = tt
 
 -- what is read by the records of a text reads the frame of a state back as that state

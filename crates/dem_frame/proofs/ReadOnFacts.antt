@@ -9,11 +9,11 @@ use Rattle.dem_num.specs.declared.vector.Vec3.{Vec3}
 use Rattle.dem_num.specs.Vectors.{widened, Within}
 use Rattle.dem_model.specs.declared.state.Body.{Body}
 use Rattle.dem_model.specs.declared.state.Held.{Held}
-use Rattle.dem_frame.specs.Records.{row_of, is_row, whole_of, top, head_of, clump_of, body_at, body_of, pair_of, held_at, held_from, is_small, continues}
+use Rattle.dem_frame.specs.Records.{row_of, is_row, whole_of, top, head_of, clump_of, body_of_clump, body_of, pair_of, held_of, held_from, is_small, continues}
 use Rattle.csv.specs.Records.{field_at}
-use Rattle.dem_frame.specs.Fronts.{read_on, with_record, with_head, with_body, last_of}
+use Rattle.dem_frame.specs.PartialFrames.{read_on, with_record, with_head, with_body, last_held}
 use Rattle.dem_frame.specs.ReadBack.{FitEach, BodyFits, body_numbers, IsOrdered, IsStored, Ascends}
-use Rattle.dem_frame.specs.declared.front.Front.{Front}
+use Rattle.dem_frame.specs.declared.partial.PartialFrame.{PartialFrame}
 use Rattle.dem_frame.proofs.DecimalFacts.{numbers_of-decimals}
 use Rattle.dem_frame.proofs.LineFacts.{row_fields}
 
@@ -79,8 +79,8 @@ head_reads step within =
     rw (row_of-row (codes "frame") 1 (pos step ∷ []) (head_is step) (fits_small step (omega arith), tt)) (whole_of-pos 1000000000 step within)
 
 -- the body of clump i, from its own number
-body_reads : (i : ℕ) (b : Body) → i < 2 ^ 32 → body_at i (pos i ∷ body_numbers b) ≡ Some b
-unfolding body_at body_of
+body_reads : (i : ℕ) (b : Body) → i < 2 ^ 32 → body_of_clump i (pos i ∷ body_numbers b) ≡ Some b
+unfolding body_of_clump body_of
 body_reads i b within = rw (whole_of-pos top i (omega arith), eq-eqb i i refl) refl
 
 -- a clump's row reads as its body
@@ -98,8 +98,8 @@ pub pair_fit : (e : Held) → IsOrdered e → IsStored e → FitEach (pair_numbe
 pair_fit e order small =
     (fits_small e.pair.a (omega (arith, order.0, order.1)), (fits_small e.pair.b order.1, (fits_stored e.h.x small.x, (fits_stored e.h.y small.y, (fits_stored e.h.z small.z, tt)))))
 
-held_reads : (last : Option Held) (e : Held) → IsOrdered e → IsStored e → continues last e.pair ≡ true → held_at last (pair_numbers e) ≡ Some e
-unfolding held_at held_from
+held_reads : (last : Option Held) (e : Held) → IsOrdered e → IsStored e → continues last e.pair ≡ true → held_of last (pair_numbers e) ≡ Some e
+unfolding held_of held_from
 held_reads last e order small after =
     rw (whole_of-pos top e.pair.a (omega (arith, order.0, order.1)), whole_of-pos top e.pair.b (omega (arith, order.1)), lt-ltb e.pair.a e.pair.b order.0, small_reads e.h small, after) refl
 

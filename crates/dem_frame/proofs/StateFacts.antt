@@ -5,7 +5,7 @@ use Rattle.std.specs.Io.KnownBytes.{Appends}
 use Rattle.dem_model.specs.declared.state.Body.{Body}
 use Rattle.dem_model.specs.declared.state.Held.{Held}
 use Rattle.dem_model.specs.Frames.{clump_text, clumps_text, pair_text, pairs_text}
-use Rattle.dem_outside.specs.Known.{AppendsFront}
+use Rattle.dem_outside.specs.Known.{AppendsPrefix}
 use Rattle.dem_outside.proofs.Written.{Written, Written-piece, Written-failed, Written-all}
 
 -- ---- clumps
@@ -31,10 +31,10 @@ clumps-more old mid now bodies i k d within same before more =
 
 -- the row of clump i failed
 pub clumps-failed : (old mid now : Option (List ℕ)) (bodies : List Body) (i k : ℕ) (d : Body) → i < length bodies → k ≡ i
-    → Written old mid (clumps_text i (drop i bodies)) (clumps_text 0 bodies) → AppendsFront mid now (clump_text k (get_or bodies i d))
-    → AppendsFront old now (clumps_text 0 bodies)
-clumps-failed old mid now bodies i k d within same before front =
-    Written-failed old mid now (clump_text i (get_or bodies i d)) _ _ (rw (clumps_text-drop bodies i d within) at before) (rw same at front)
+    → Written old mid (clumps_text i (drop i bodies)) (clumps_text 0 bodies) → AppendsPrefix mid now (clump_text k (get_or bodies i d))
+    → AppendsPrefix old now (clumps_text 0 bodies)
+clumps-failed old mid now bodies i k d within same before frame =
+    Written-failed old mid now (clump_text i (get_or bodies i d)) _ _ (rw (clumps_text-drop bodies i d within) at before) (rw same at frame)
 
 -- all rows were written
 pub clumps-all : (old now : Option (List ℕ)) (bodies : List Body) (i : ℕ) → length bodies ≤ i
@@ -64,10 +64,10 @@ pairs-more old mid now held i d within before more =
 
 -- the row of pair i failed
 pub pairs-failed : (old mid now : Option (List ℕ)) (held : List Held) (i : ℕ) (d : Held) → i < length held
-    → Written old mid (pairs_text (drop i held)) (pairs_text held) → AppendsFront mid now (pair_text (get_or held i d).pair (get_or held i d).h)
-    → AppendsFront old now (pairs_text held)
-pairs-failed old mid now held i d within before front =
-    Written-failed old mid now (pair_text (get_or held i d).pair (get_or held i d).h) _ _ (rw (pairs_text-drop held i d within) at before) front
+    → Written old mid (pairs_text (drop i held)) (pairs_text held) → AppendsPrefix mid now (pair_text (get_or held i d).pair (get_or held i d).h)
+    → AppendsPrefix old now (pairs_text held)
+pairs-failed old mid now held i d within before frame =
+    Written-failed old mid now (pair_text (get_or held i d).pair (get_or held i d).h) _ _ (rw (pairs_text-drop held i d within) at before) frame
 
 -- all rows were written
 pub pairs-all : (old now : Option (List ℕ)) (held : List Held) (i : ℕ) → length held ≤ i

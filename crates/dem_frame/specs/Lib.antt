@@ -1,3 +1,3 @@
 pub mod Records
-pub mod Fronts
+pub mod PartialFrames
 pub mod ReadBack

@@ -8,8 +8,8 @@ use Rattle.dem_model.specs.declared.state.Held.{Held}
 use Rattle.dem_model.specs.declared.state.State.{State}
 use Rattle.dem_model.specs.Frames.{state_text}
 use Rattle.dem_frame.specs.Records.{continues}
-use Rattle.dem_frame.specs.declared.front.FrameFault.{FrameFault}
-use Rattle.dem_frame.specs.declared.front.FrameFault.TheVariants.{Bad, Short, OutOfMemory}
+use Rattle.dem_frame.specs.declared.partial.FrameFault.{FrameFault}
+use Rattle.dem_frame.specs.declared.partial.FrameFault.TheVariants.{Bad, Short, OutOfMemory}
 
 -- each of these numbers fits 64 bits with its sign
 abbrev pub FitEach : List ℤ → Type 0

@@ -67,12 +67,12 @@ unfoldable pub body_of : List ℤ → Body
 body_of ns = record { p = vector_of ns 1; q = quaternion_of ns 7; v = vector_of ns 4; w = vector_of ns 11 }
 
 -- the body, where the row is of clump i
-unfoldable pub body_at : ℕ → List ℤ → Option Body
-body_at i ns = option_and_then (λ k. if k == i then Some (body_of ns) else None) (whole_of top (get_or ns 0 (pos 0)))
+unfoldable pub body_of_clump : ℕ → List ℤ → Option Body
+body_of_clump i ns = option_and_then (λ k. if k == i then Some (body_of ns) else None) (whole_of top (get_or ns 0 (pos 0)))
 
 -- the body of clump i, from its row
 unfoldable pub clump_of : ℕ → List (List ℕ) → Option Body
-clump_of i fields = option_and_then (body_at i) (row_of (codes "clump") 14 fields)
+clump_of i fields = option_and_then (body_of_clump i) (row_of (codes "clump") 14 fields)
 
 -- each component of a displacement is at most 2^40 in size
 unfoldable pub is_small : Vec3 → Bool
@@ -91,9 +91,9 @@ continues (Some e) q = comes_after e.pair q
 unfoldable pub held_from : Option Held → Pair → Vec3 → Option Held
 held_from last p h = if nat_lt p.a p.b && is_small h && continues last p then Some (record { pair = p; h = h }) else None
 
-unfoldable pub held_at : Option Held → List ℤ → Option Held
-held_at last ns = option_and_then (λ a. option_and_then (λ b. held_from last (record { a = a; b = b }) (vector_of ns 2)) (whole_of top (get_or ns 1 (pos 0)))) (whole_of top (get_or ns 0 (pos 0)))
+unfoldable pub held_of : Option Held → List ℤ → Option Held
+held_of last ns = option_and_then (λ a. option_and_then (λ b. held_from last (record { a = a; b = b }) (vector_of ns 2)) (whole_of top (get_or ns 1 (pos 0)))) (whole_of top (get_or ns 0 (pos 0)))
 
 -- a pair after the last one, from its row
 unfoldable pub pair_of : Option Held → List (List ℕ) → Option Held
-pair_of last fields = option_and_then (held_at last) (row_of (codes "pair") 5 fields)
+pair_of last fields = option_and_then (held_of last) (row_of (codes "pair") 5 fields)

@@ -1,21 +1,21 @@
 //! The rows of the program: frames, ends, taken lists and counts of tests, written to a sink, and a frame read back.
 //!
 //! `write_head`, `write_clump`, `write_pair`, `write_end`, `write_taken` and `write_tests` write one row each, `write_state`
-//! a frame; `read_frame` reads one. Means: `Frames` of dem_model, and `Fronts` here for reading. Callers rest on: Ok appended
+//! a frame; `read_frame` reads one. Means: `Frames` of dem_model, and `PartialFrames` here for reading. Callers rest on: Ok appended
 //! exactly the text; WriteFault comes exactly where the sink's count of faults rose, and then a prefix of the text was
-//! appended; `Bad` names the first record that no good frame has there. Each row is one put. Takes memory: `read_frame`.
+//! appended; `Bad` names the first record that no good frame has there. Takes memory: `read_frame`.
 //! Not here: which frames a run writes (dem_plain, dem_core), sinks (dem_outside).
 #![tactic(auto)]
 
-mod front;
 mod number;
+mod partial;
 mod read;
 mod records;
 mod row;
 mod rows;
 mod state;
 
-pub use front::FrameFault;
+pub use partial::FrameFault;
 pub use read::read_frame;
 pub use row::WriteFault;
 pub use rows::{write_clump, write_end, write_head, write_pair, write_taken, write_tests};

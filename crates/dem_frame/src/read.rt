@@ -1,9 +1,9 @@
 //! A frame read back from its text.
 ghost use Rattle.std.specs.Prelude.{◌<◌, ◌≤◌, length};
-ghost use Rattle.dem_frame.specs.Fronts.{ReadsFrame};
+ghost use Rattle.dem_frame.specs.PartialFrames.{ReadsFrame};
 ghost use Rattle.dem_frame.specs.ReadBack.{ReadsBack};
 
-use crate::front::{FrameFault, Front};
+use crate::partial::{FrameFault, PartialFrame};
 use csv::ReaderBuilder;
 use dem_model::State;
 use std::alloc::Global;
@@ -20,10 +20,10 @@ pub fn read_frame(alloc: Global, bytes: &[u8], clumps: u32) -> Result<State, Fra
         .has_headers(false)
         .flexible(true)
         .from_reader(alloc, bytes);
-    let mut front = Front::new(alloc);
+    let mut frame = PartialFrame::new(alloc);
     let mut rows: u32 = 0;
     for row in reader.into_byte_records() {
-        // A read from memory doesn't fail, and records may differ in length, so this is want of memory.
+        // A read from memory doesn't fail, and records may differ in length, so there was no memory.
         let Ok(row) = row else {
             return Err(FrameFault::OutOfMemory);
         };
@@ -32,13 +32,13 @@ pub fn read_frame(alloc: Global, bytes: &[u8], clumps: u32) -> Result<State, Fra
             return Err(FrameFault::OutOfMemory);
         };
         rows = number;
-        match front.take(&row, clumps) {
+        match frame.take(&row, clumps) {
             Ok(true) => {}
             Ok(false) => return Err(FrameFault::Bad { row: rows }),
             Err(_) => return Err(FrameFault::OutOfMemory),
         }
     }
-    match front.finish(clumps) {
+    match frame.finish(clumps) {
         Some(state) => Ok(state),
         None => Err(FrameFault::Short { rows }),
     }

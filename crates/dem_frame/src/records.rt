@@ -7,13 +7,13 @@ ghost use Rattle.dem_frame.specs.Records.{
   whole_of,
   head_of,
   body_of,
-  body_at,
+  body_of_clump,
   clump_of,
   is_small,
   comes_after,
   continues,
   held_from,
-  held_at,
+  held_of,
   pair_of,
 };
 
@@ -86,10 +86,10 @@ fn body(numbers: &[i64]) -> Body
 }
 
 // The body, where the numbers are of clump `i`.
-#[tactic(auto, unfolding(crate::specs::Records::body_at))]
-fn body_of_clump(numbers: &[i64], i: u32) -> Option<Body>
+#[tactic(auto, unfolding(crate::specs::Records::body_of_clump))]
+fn numbered_body(numbers: &[i64], i: u32) -> Option<Body>
     requires { length numbers.now ≡ 14 }
-    ensures { result ≡ body_at i numbers.now }
+    ensures { result ≡ body_of_clump i numbers.now }
 {
     let k = whole(numbers[0], u32::MAX)?;
     if k == i { Some(body(numbers)) } else { None }
@@ -101,7 +101,7 @@ pub(crate) fn read_clump(row: &ByteRecord, i: u32) -> Option<Body>
     ensures { result ≡ clump_of i (fields_of row.now) }
 {
     let numbers = row_numbers(row, b"clump", 14)?;
-    body_of_clump(numbers.as_slice(), i)
+    numbered_body(numbers.as_slice(), i)
 }
 
 // Each component is at most 2^40 in size.
@@ -138,10 +138,10 @@ fn held(last: Option<Held>, pair: Pair, h: Vec3) -> Option<Held>
 }
 
 // The same from the numbers of a row.
-#[tactic(auto, unfolding(crate::specs::Records::held_at))]
+#[tactic(auto, unfolding(crate::specs::Records::held_of))]
 fn held_of_numbers(last: Option<Held>, numbers: &[i64]) -> Option<Held>
     requires { length numbers.now ≡ 5 }
-    ensures { result ≡ held_at last numbers.now }
+    ensures { result ≡ held_of last numbers.now }
 {
     let a = whole(numbers[0], u32::MAX)?;
     let b = whole(numbers[1], u32::MAX)?;

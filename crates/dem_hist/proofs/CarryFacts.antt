@@ -16,7 +16,7 @@ use Rattle.dem_model.specs.Step.{held_at, same_pair}
 use Rattle.dem_list.specs.Ascending.{pair_cmp, IsAscending}
 use Rattle.dem_list.proofs.AscendingFacts.{pair_cmp-total}
 use Rattle.dem_model.specs.Carry.{held_of, kept_of, carried}
-use Rattle.dem_hist.specs.Carrying.{AllBefore, IsReached}
+use Rattle.dem_hist.specs.Inside.{AllBefore, IsReached}
 
 -- a pair is the same as itself
 pub same_pair-itself : (p : Pair) → same_pair p p ≡ true

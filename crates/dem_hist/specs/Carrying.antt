@@ -1,23 +1,9 @@
--- What is held of the pairs of a list, by place, and carrying it to the next list.
-use Rattle.std.specs.Prelude.{◌≡◌, ℕ, ◌<◌, ◌≤◌, false, List, length, Option, slice_index_or}
-use Rattle.std.specs.List.{AllWithin}
-use Rattle.std.specs.Ordering.{is_lt}
-use Rattle.std.specs.declared.cmp.Ordering.TheVariants.{Less}
+-- What is held of the pairs of a list, by place.
+use Rattle.std.specs.Prelude.{List, Option}
 use Rattle.dem_num.specs.declared.vector.Vec3.{Vec3}
-use Rattle.dem_model.specs.declared.state.Pair.{Pair}
-use Rattle.dem_list.specs.Ascending.{Pairs, pair_cmp}
+use Rattle.dem_list.specs.Ascending.{Pairs}
 
 -- a list in use, and an entry by place: what is held of the pair there, or None
 pub record HeldByPlace : Type 0 where
   pub list : Pairs
   pub entries : List (Option Vec3)
-
--- the pairs at the places below i come before a pair
-abbrev pub AllBefore : List Pair → ℕ → Pair → Type 0
-AllBefore ps i p = AllWithin (λ q. pair_cmp q p ≡ Less) ps 0 i
-
--- i is the first place whose pair doesn't come before a pair
-pub record IsReached (ps : List Pair) (i : ℕ) (p : Pair) : Type 0 where
-  pub within : i ≤ length ps
-  pub before : AllBefore ps i p
-  pub after : (d : Pair) → i < length ps → is_lt (pair_cmp (slice_index_or ps i d) p) ≡ false

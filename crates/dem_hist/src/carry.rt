@@ -1,24 +1,15 @@
 //! One walk of the old list and the new: what is held of each pair of the new one.
 
 ghost use Rattle.std.specs.Prelude.{◌≡◌, ◌<◌, ◌≤◌, ◌++◌, [], ◌∷◌, length, OnOk};
-ghost use Rattle.std.specs.Ordering.{is_lt};
-ghost use Rattle.dem_list.specs.Ascending.{pair_cmp};
 ghost use Rattle.dem_model.specs.Step.{held_at};
 ghost use Rattle.dem_model.specs.Carry.{kept_of, carried};
-ghost use Rattle.dem_hist.specs.Carrying.{AllBefore, IsReached};
+ghost use Rattle.dem_hist.specs.Inside.{AllBefore, IsReached};
 
-use dem_list::PairList;
+use dem_list::{PairList, is_before};
 use dem_model::{OutOfMemory, Pair};
 use dem_num::Vec3;
 
-// Whether a pair comes before another.
-fn is_before(p: Pair, q: Pair) -> bool
-    ensures { result ≡ is_lt (pair_cmp p q) }
-{
-    p.a < q.a || (p.a == q.a && p.b < q.b)
-}
-
-// The first place from `at` on whose pair doesn't come before `pair`.
+/// The first place from `at` on whose pair doesn't come before `pair`.
 fn reached(old: &PairList, mut at: u32, pair: Pair) -> u32
     requires within { at ≤ length old.now.pairs }
     requires before { AllBefore old.now.pairs at pair }
@@ -33,8 +24,8 @@ fn reached(old: &PairList, mut at: u32, pair: Pair) -> u32
     at
 }
 
-// What is held of `pair`, where `at` is the first place whose pair doesn't come before it.
-fn entry_of(old: &PairList, entries: &[Option<Vec3>], at: u32, pair: Pair) -> Option<Vec3>
+/// What is held of `pair`, where `at` is the first place whose pair doesn't come before it.
+fn entry_for(old: &PairList, entries: &[Option<Vec3>], at: u32, pair: Pair) -> Option<Vec3>
     requires as_many { length entries.now ≡ length old.now.pairs }
     requires reached { IsReached old.now.pairs at pair }
     ensures { result ≡ held_at (kept_of old.now.pairs entries.now) pair }
@@ -49,7 +40,7 @@ fn entry_of(old: &PairList, entries: &[Option<Vec3>], at: u32, pair: Pair) -> Op
     }
 }
 
-// Appends an entry.
+/// Appends an entry.
 fn pushed(spare: &mut Vec<Option<Vec3>>, entry: Option<Vec3>) -> Result<(), OutOfMemory>
     ensures { OnOk result (spare.new.items ≡ spare.old.items ++ entry ∷ []) }
 {
@@ -74,7 +65,7 @@ pub fn fill(
     for j in 0..new.len() {
         let pair = new.get(j);
         at = reached(old, at, pair);
-        let entry = entry_of(old, entries, at, pair);
+        let entry = entry_for(old, entries, at, pair);
         pushed(spare, entry)?;
     }
     Ok(())

@@ -6,10 +6,12 @@
 //! round from one to the other. Takes memory: `RawPairs::add`. Not here: which pairs are near, displacements (dem_hist).
 #![tactic(auto)]
 
+mod order;
 mod pair_list;
 mod raw_pairs;
 #[cfg(test)]
 mod tests;
 
+pub use order::is_before;
 pub use pair_list::PairList;
 pub use raw_pairs::RawPairs;

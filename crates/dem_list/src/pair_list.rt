@@ -4,6 +4,7 @@ ghost use Rattle.std.specs.Prelude.{◌≡◌, ◌<◌, ◌^◌, [], length, sli
 ghost use Rattle.std.specs.List.{Contains};
 ghost use Rattle.dem_list.specs.Ascending.{Pairs, IsAscending};
 
+use crate::order::key;
 use crate::raw_pairs::RawPairs;
 use dem_model::Pair;
 use std::alloc::Global;
@@ -62,11 +63,7 @@ impl PairList {
     pub fn place(&self, p: Pair) -> Option<u32>
         ensures { MatchOption result (Contains self.now.pairs p → ⊥) (λ i. slice_get self.now.pairs i ≡ Some p) }
     {
-        match self
-            .pairs
-            .as_slice()
-            .binary_search_by_key(&(p.a, p.b), |q| (q.a, q.b))
-        {
+        match self.pairs.as_slice().binary_search_by_key(&key(&p), key) {
             Ok(i) => Some(i as u32),
             Err(_) => None,
         }

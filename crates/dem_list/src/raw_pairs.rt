@@ -3,6 +3,7 @@
 ghost use Rattle.std.specs.Prelude.{◌≡◌, ◌+◌, ◌<◌, ◌^◌, ◌++◌, [], ◌∷◌, length, OnOk, OnErr, vec_len};
 ghost use Rattle.dem_list.specs.Ascending.{Pairs, IsAscending, HasSamePairs};
 
+use crate::order::key;
 use crate::pair_list::PairList;
 use dem_model::{OutOfMemory, Pair};
 use std::marker::Model;
@@ -42,7 +43,7 @@ impl RawPairs {
         ensures added { HasSamePairs self.pairs result.pairs }
     {
         let mut pairs = self.pairs;
-        pairs.sort_unstable_by_key(|p| (p.a, p.b));
+        pairs.sort_unstable_by_key(key);
         pairs.dedup();
         PairList {
             step: self.step,

@@ -1,6 +1,6 @@
 -- How many pairs a clump can have: each of its few spheres with all that is later, and each other sphere with these few.
 use Rattle.std.proofs.Common.{◌≡◌, ℕ, zero, suc, ◌+◌, ◌*◌, ◌<◌, ◌≤◌, List, [], ◌∷◌, ◌++◌, length, get_or, take, drop, map, refl, sym, ap, ◌∙◌, arith, subst, zero-add, add-one, Bool, true, false, inl, inr, ◌≢◌, ◌^◌}
-use Rattle.std.specs.Prelude.{if◌then◌else◌, ◌==◌, ◌||◌}
+use Rattle.std.specs.Prelude.{if◌then◌else◌, ◌==◌}
 use Rattle.std.proofs.lemmas.List.{take_more, take_all, take-append-drop}
 use Rattle.std.proofs.lemmas.Bool.{cases_lt, cases_eq, cases_Bool, ne_eqb, eq-eqb, lt-ltb, le-ltb}
 use Rattle.std.proofs.lemmas.Nat.{mul-le}
@@ -10,17 +10,13 @@ use Rattle.dem_model.specs.Spheres.{Sphere, sphere_of, balls_of, spheres_of_clum
 use Rattle.dem_model.specs.Sound.{IsSound}
 use Rattle.dem_model.specs.Pairs.{sphere_count, limit_of, sphere_at, no_sphere, pair_of, apart, row_below, pairs_below, all_pairs}
 use Rattle.dem_model.specs.Step.{first_clump, is_second}
+use Rattle.dem_model.specs.Counts.{one_if, involves, pair_count, most_pairs}
 use Rattle.dem_model.specs.declared.shape.Ball.{Ball}
 use Rattle.dem_model.specs.declared.shape.Template.{Template}
 use Rattle.dem_model.specs.declared.state.Clump.{Clump}
 use Rattle.dem_model.specs.declared.state.Pair.{Pair}
 use Rattle.dem_model.proofs.PairFacts.{row_below-more, row_below-start, pairs_below-more, pairs_below-none}
 use Rattle.dem_model.proofs.SoundFacts.{balls_of-count}
-
--- one where the test holds, else nothing
-abbrev pub one_if : Bool → ℕ
-one_if true = 1
-one_if false = 0
 
 pub one_if-le : (b : Bool) → one_if b ≤ 1
 one_if-le true = omega arith
@@ -115,15 +111,6 @@ own_below-past s c b h = ap (own_in c) (take_all (b + 1) (spheres_of s) (omega a
 
 -- ---- a clump's pairs
 
--- whether a clump has a part in a pair
-abbrev pub involves : SceneValue → ℕ → Pair → Bool
-involves s c p = (first_clump s p == c) || is_second s c p
-
--- how many of these pairs a clump has a part in
-unfoldable pub pair_count : SceneValue → ℕ → List Pair → ℕ
-pair_count s c [] = 0
-pair_count s c (p ∷ ps) = one_if (involves s c p) + pair_count s c ps
-
 pub pair_count-append : (s : SceneValue) (c : ℕ) (ps qs : List Pair) → pair_count s c (ps ++ qs) ≡ pair_count s c ps + pair_count s c qs
 unfolding pair_count
 pair_count-append s c [] qs = sym (zero-add (pair_count s c qs))
@@ -190,10 +177,6 @@ rows_count-le s c (suc a) sound h =
     row_step s c a (limit_of s) sound (omega arith) (omega arith) (rows_count-le s c a sound (omega arith)) in
     let whole : pair_count s c (pairs_below s (a + 1)) ≤ own_below s c (a + 1) * limit_of s + (a + 1) * 16 = rw more step in
     subst (λ n. pair_count s c (pairs_below s n) ≤ own_below s c n * limit_of s + n * 16) (add-one a) whole
-
--- no clump has more pairs than this
-abbrev pub most_pairs : ℕ
-most_pairs = 2 ^ 21
 
 few_pairs : (s : SceneValue) (c a x : ℕ) → IsSound s → a ≤ sphere_count s → x ≤ own_below s c a * limit_of s + a * 16 → x ≤ most_pairs
 unfolding limit_of sphere_count

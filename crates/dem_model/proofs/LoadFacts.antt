@@ -16,17 +16,13 @@ use Rattle.dem_num.proofs.VectorSizes.{within_wider, sum_within, opposed_within}
 use Rattle.dem_model.specs.SceneValue.{SceneValue}
 use Rattle.dem_model.specs.Centers.{touch_of}
 use Rattle.dem_model.specs.Ranges.{IsSmall}
-use Rattle.dem_model.specs.Step.{Meeting, meeting, meetings, held_at, no_load, load_plus, first_clump, is_second, load_with, load_on, loads_of, push_of}
+use Rattle.dem_model.specs.Step.{Meeting, meeting, meetings, held_at, no_load, load_plus, first_clump, is_second, load_with, load_on, loads_of, loads_with, push_of}
 use Rattle.dem_model.specs.declared.law.Load.{Load}
 use Rattle.dem_model.specs.declared.law.Touch.{Touch}
 use Rattle.dem_model.specs.declared.state.Body.{Body}
 use Rattle.dem_model.specs.declared.state.Held.{Held}
 use Rattle.dem_model.specs.declared.state.Pair.{Pair}
-use Rattle.dem_model.proofs.CountFacts.{one_if, involves, pair_count, most_pairs}
-
--- each clump's load, with one more meeting
-unfoldable pub loads_with : SceneValue → List Load → Meeting → List Load
-loads_with s ws m = map (λ c. load_with s c (get_or ws c no_load) m) (range_with_len 0 (length ws))
+use Rattle.dem_model.specs.Counts.{one_if, involves, pair_count, most_pairs}
 
 -- the loads of some meetings and one more
 pub loads_of-push : (s : SceneValue) (ms : List Meeting) (m : Meeting) → loads_of s (ms ++ m ∷ []) ≡ loads_with s (loads_of s ms) m

@@ -3,10 +3,10 @@ use Rattle.std.proofs.Common.{◌≡◌, ℕ, suc, ◌+◌, ◌<◌, ◌≤◌, 
 use Rattle.std.specs.Prelude.{All, slice_get}
 use Rattle.std.proofs.lemmas.Option.{slice_get_cases, get_or_from_slice_get}
 use Rattle.std.proofs.lemmas.List.{get_or-map, length-map}
-use Rattle.std.proofs.lemmas.List.Elements.{All-append, All-map, All-nil}
+use Rattle.std.proofs.lemmas.List.Elements.{All-append, All-head, All-map, All-nil, All-tail}
 use Rattle.dem_num.specs.Vectors.{narrowed, no_vector}
 use Rattle.dem_model.specs.SceneValue.{SceneValue}
-use Rattle.dem_model.specs.Spheres.{sphere_of, balls_of, spheres_of_clump, spheres_from, spheres_of}
+use Rattle.dem_model.specs.Spheres.{Sphere, sphere_of, balls_of, spheres_of_clump, spheres_from, spheres_of}
 use Rattle.dem_model.specs.Sound.{IsSound, IsBall, IsTemplate, IsClump}
 use Rattle.dem_model.specs.Pairs.{sphere_at, sphere_count, no_sphere}
 use Rattle.dem_model.specs.Centers.{body_at, center_at, placed, centers_of}
@@ -68,7 +68,6 @@ spheres_of_clump-sound s k sound there =
     (λ j d lt. record {
       clump = there;
       ball = balls_of-sound s (clump_at s k).t sound c.t j d lt;
-      narrower = λ radius all. balls_of-narrower s (clump_at s k).t radius sound c.t all j d lt;
       center = λ b h. h.centers j d lt;
     })
 
@@ -89,6 +88,24 @@ spheres_from-sound s k (c ∷ cs) sound fits same =
 pub spheres_of-sound : (s : SceneValue) → IsSound s → All (IsSphere s) (spheres_of s)
 unfolding spheres_of clump_at
 spheres_of-sound s sound = spheres_from-sound s 0 s.clumps sound (omega arith) (λ j lt. rw zero-add refl)
+
+-- what all spheres of the templates are narrower than, each sphere is narrower than
+spheres_from-narrower : (s : SceneValue) (radius k : ℕ) (cs : List Clump) → IsSound s → All (λ (c : Clump). c.t < length s.templates) cs →
+    All (λ (x : Template). All (λ (y : Ball). y.r < radius) x.balls) s.templates → All (λ (x : Sphere). x.ball.r < radius) (spheres_from s.templates k cs)
+unfolding spheres_from spheres_of_clump
+spheres_from-narrower s radius k [] sound there all = All-nil (λ (x : Sphere). x.ball.r < radius)
+spheres_from-narrower s radius k (c ∷ cs) sound there all =
+    All-append (λ (x : Sphere). x.ball.r < radius) (map (sphere_of k) (balls_of s.templates c.t)) (spheres_from s.templates (k + 1) cs)
+    (All-map (λ (x : Sphere). x.ball.r < radius) (sphere_of k) (balls_of s.templates c.t)
+    (balls_of-narrower s c.t radius sound (All-head (λ (x : Clump). x.t < length s.templates) c cs there) all))
+    (spheres_from-narrower s radius (k + 1) cs sound (All-tail (λ (x : Clump). x.t < length s.templates) c cs there) all)
+
+-- a sphere by its number is narrower than what all spheres of the templates are narrower than
+pub sphere_at-narrower : (s : SceneValue) (i radius : ℕ) → IsSound s → i < sphere_count s →
+    All (λ (x : Template). All (λ (y : Ball). y.r < radius) x.balls) s.templates → (sphere_at s i).ball.r < radius
+unfolding sphere_at sphere_count spheres_of
+sphere_at-narrower s i radius sound there all =
+    spheres_from-narrower s radius 0 s.clumps sound (λ j d lt. (sound.clumps j d lt).t) all i no_sphere there
 
 -- a sphere by its number is within its ranges
 pub sphere_at-sound : (s : SceneValue) (i : ℕ) → IsSound s → i < sphere_count s → IsSphere s (sphere_at s i)

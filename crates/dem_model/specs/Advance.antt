@@ -1,5 +1,5 @@
 -- One clump's step: velocity first, then position with the new velocity; spin, then the quaternion; and the limits.
-use Rattle.std.specs.Prelude.{ℕ, ℤ, pos, ◌+ℤ◌, ◌-ℤ◌, ◌*ℤ◌, ◌^◌, Bool, not, ◌||◌, List, Result, Ok, Err, nat_lt, unsigned_abs, slice_get, if◌then◌else◌}
+use Rattle.std.specs.Prelude.{ℕ, ℤ, pos, ◌+ℤ◌, ◌-ℤ◌, ◌*ℤ◌, Bool, not, ◌||◌, List, Result, Ok, Err, nat_lt, unsigned_abs, slice_get, if◌then◌else◌}
 use Rattle.std.specs.List.{list_any}
 use Rattle.std.specs.Option.{option_map_or}
 use Rattle.dem_num.specs.declared.vector.Vec3.{Vec3}
@@ -11,6 +11,7 @@ use Rattle.dem_model.specs.SceneValue.{SceneValue}
 use Rattle.dem_model.specs.Position.{in_box}
 use Rattle.dem_model.specs.Spheres.{balls_of, center_of}
 use Rattle.dem_model.specs.declared.law.Load.{Load}
+use Rattle.dem_model.specs.declared.limits.TheConstants.{MAX_TORQUE}
 use Rattle.dem_model.specs.declared.shape.Ball.{Ball}
 use Rattle.dem_model.specs.declared.shape.Template.{Template}
 use Rattle.dem_model.specs.declared.state.Body.{Body}
@@ -31,7 +32,7 @@ velocity_after gravity mass v force = sum_of (sum_of (widened v) (widened gravit
 
 -- the torque in body axes
 unfoldable pub body_torque_of : Body → Wide3 → Wide3
-body_torque_of b torque = turned_back_by (matrix_of b.q) (clamped_each torque (pos (2 ^ 90)))
+body_torque_of b torque = turned_back_by (matrix_of b.q) (clamped_each torque (pos MAX_TORQUE))
 
 -- a component of the new spin, by Euler's equation about a principal axis
 unfoldable pub spin_component : ℤ → ℤ → ℤ → ℤ → ℤ → ℤ → ℤ → ℤ

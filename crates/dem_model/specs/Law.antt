@@ -9,6 +9,7 @@ use Rattle.dem_model.specs.declared.law.Law.{Law}
 use Rattle.dem_model.specs.declared.law.Push.{Push}
 use Rattle.dem_model.specs.declared.law.Side.{Side}
 use Rattle.dem_model.specs.declared.law.Touch.{Touch}
+use Rattle.dem_model.specs.declared.limits.TheConstants.{MAX_DISPLACEMENT, MAX_FORCE}
 use Rattle.dem_model.specs.Mixing.{radius_between, mass_between}
 
 -- the radius of the contact's circle: the root of the effective radius times the overlap
@@ -59,16 +60,16 @@ damping_of ratio stiffness c mass speed = shifted (pos (ratio * root_of (stiffne
 -- the normal force: elastic less damping, never pulling
 unfoldable pub normal_force_of : Law → ℕ → ℕ → ℕ → ℤ → ℕ
 normal_force_of law c delta mass speed =
-    unsigned_abs (int_max (pos 0) (int_min (elastic_force_of law.kn c delta -ℤ damping_of law.bn law.kn c mass speed) (pos (2 ^ 62))))
+    unsigned_abs (int_max (pos 0) (int_min (elastic_force_of law.kn c delta -ℤ damping_of law.bn law.kn c mass speed) (pos MAX_FORCE)))
 
 -- the displacement carried into this step: what is stored, brought across the normal, and what the step adds
 unfoldable pub carried_of : Vec3 → Wide3 → Vec3 → Vec3
-carried_of n slip h0 = narrowed (clamped_each (sum_of (across_normal n (widened h0)) slip) (pos (2 ^ 40)))
+carried_of n slip h0 = narrowed (clamped_each (sum_of (across_normal n (widened h0)) slip) (pos MAX_DISPLACEMENT))
 
 -- a component of the tangential force before friction bounds it
 unfoldable pub trial_component : ℕ → ℕ → ℕ → ℕ → ℤ → ℤ → ℤ
 trial_component kt bt c mass h slip =
-    clamped (opposite (shifted (pos (kt * c) *ℤ h) 32) -ℤ damping_of bt kt c mass slip) (pos (2 ^ 62))
+    clamped (opposite (shifted (pos (kt * c) *ℤ h) 32) -ℤ damping_of bt kt c mass slip) (pos MAX_FORCE)
 
 -- the tangential force before friction bounds it: elastic and damped
 unfoldable pub trial_of : Law → ℕ → ℕ → Vec3 → Wide3 → Wide3

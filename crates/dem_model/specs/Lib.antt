@@ -9,6 +9,7 @@ pub mod Mixing
 pub mod Law
 pub mod Advance
 pub mod Step
+pub mod Counts
 pub mod Plain
 pub mod Motion
 pub mod ReadingNames
@@ -22,3 +23,9 @@ pub mod Output
 pub mod Ranges
 pub mod Near
 pub mod Carry
+pub mod World
+pub mod TakenRows
+pub mod Exchange
+pub mod ExchangeKinds
+pub mod ExchangeSteps
+pub mod Made

@@ -8,7 +8,7 @@ use Rattle.dem_model.specs.declared.law.Side.{Side}
 use Rattle.dem_model.specs.declared.law.Touch.{Touch}
 use Rattle.dem_model.specs.declared.shape.Form.{Form}
 use Rattle.dem_model.specs.declared.shape.Form.TheVariants.{Plane, Cylinder}
-use Rattle.dem_model.specs.declared.limits.TheConstants.{MAX_STIFFNESS, MAX_RATIO, MAX_OVERLAP, MAX_POINT, MAX_DIRECTION, MAX_CYLINDER}
+use Rattle.dem_model.specs.declared.limits.TheConstants.{MAX_STIFFNESS, MAX_RATIO, MAX_OVERLAP, MAX_POINT, MAX_DIRECTION, MAX_CYLINDER, MAX_SPEED, MAX_MASS, MAX_RADIUS, MAX_DISPLACEMENT}
 
 -- the numbers of a law are within the ranges of a material
 pub record IsLaw (law : Law) : Type 0 where
@@ -20,11 +20,11 @@ pub record IsLaw (law : Law) : Type 0 where
 
 -- a side is within its ranges, a wall's zeros among them
 pub record IsBounded (s : Side) : Type 0 where
-  pub v : Within (widened s.v) (2 ^ 40)
+  pub v : Within (widened s.v) MAX_SPEED
   pub spin : Within (widened s.spin) (2 ^ 30)
   pub lever : Within (widened s.lever) (2 ^ 28)
-  pub r : s.r ≤ 2 ^ 26
-  pub mass : s.mass ≤ 2 ^ 40
+  pub r : s.r ≤ MAX_RADIUS
+  pub mass : s.mass ≤ MAX_MASS
 
 -- a side that isn't a wall is within its ranges
 pub record IsFirst (s : Side) : Type 0 where
@@ -58,7 +58,7 @@ pub record IsSmall (p : Push) : Type 0 where
   pub force : Within p.force (2 ^ 63)
   pub torque_a : Within p.torque_a (2 ^ 93)
   pub torque_b : Within p.torque_b (2 ^ 93)
-  pub h : Within (widened p.h) (2 ^ 40)
+  pub h : Within (widened p.h) MAX_DISPLACEMENT
 
 -- a wall that a sphere of this radius may meet: a plane has a direction, a cylinder is wider than the sphere
 abbrev pub IsWallFor : ℕ → Form → Type 0

@@ -45,7 +45,36 @@ names_of names.Walls = wall_names
 names_of names.WallsPlane = plane_names
 names_of names.WallsCylinder = cylinder_names
 names_of names.Clumps = clump_names
-names_of _ = []
+names_of names.Version = []
+names_of names.Box = []
+names_of names.Steps = []
+names_of names.Every = []
+names_of names.Speed = []
+names_of names.Spin = []
+names_of names.Gravity = []
+names_of names.MaterialsKn = []
+names_of names.MaterialsKt = []
+names_of names.MaterialsBn = []
+names_of names.MaterialsBt = []
+names_of names.MaterialsMu = []
+names_of names.TemplatesMass = []
+names_of names.TemplatesMoments = []
+names_of names.TemplatesSpheresAt = []
+names_of names.TemplatesSpheresR = []
+names_of names.TemplatesSpheresMat = []
+names_of names.WallsForm = []
+names_of names.WallsPlaneAt = []
+names_of names.WallsPlaneDir = []
+names_of names.WallsCylinderAxis = []
+names_of names.WallsCylinderAt = []
+names_of names.WallsCylinderR = []
+names_of names.WallsMat = []
+names_of names.ClumpsT = []
+names_of names.ClumpsP = []
+names_of names.ClumpsV = []
+names_of names.ClumpsQ = []
+names_of names.ClumpsW = []
+names_of names.ClumpsTotal = []
 
 -- a name as the messages write it
 unfoldable pub name_text : Name → List ℕ

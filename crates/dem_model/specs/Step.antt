@@ -1,5 +1,5 @@
 -- The plain step: every pair is tested, each touching pair pushes, the pushes are summed, and each body advances.
-use Rattle.std.specs.Prelude.{ℕ, ◌+◌, ◌==◌, Bool, false, ◌&&◌, List, [], ◌∷◌, length, map, fold, find, Option, Result, Ok, Err, nat_lt, slice_index_or, unwrap_or, if◌then◌else◌}
+use Rattle.std.specs.Prelude.{ℕ, ◌+◌, ◌==◌, Bool, false, ◌&&◌, List, [], ◌∷◌, length, map, drop, fold, find, Option, Result, Ok, Err, nat_lt, slice_index_or, unwrap_or, if◌then◌else◌}
 use Rattle.std.specs.List.{filter_map, range_with_len}
 use Rattle.std.specs.Option.{option_map}
 use Rattle.dem_num.specs.declared.vector.Vec3.{Vec3}
@@ -8,7 +8,7 @@ use Rattle.dem_num.specs.Vectors.{widened, narrowed, no_vector, sum_of, opposed}
 use Rattle.dem_num.specs.Rotations.{turned_of}
 use Rattle.dem_model.specs.SceneValue.{SceneValue}
 use Rattle.dem_model.specs.Pairs.{sphere_count, sphere_at, wall_at, all_pairs}
-use Rattle.dem_model.specs.Centers.{body_at, centers_of, touch_of}
+use Rattle.dem_model.specs.Centers.{still_body, body_at, centers_of, touch_of}
 use Rattle.dem_model.specs.Mixing.{mixed_of}
 use Rattle.dem_model.specs.Law.{contact_of}
 use Rattle.dem_model.specs.Ranges.{wall_side_of}
@@ -131,6 +131,10 @@ load_with s c w m =
 unfoldable pub load_on : SceneValue → List Meeting → ℕ → Load
 load_on s ms c = fold (load_with s c) no_load ms
 
+-- the load of each clump with one more meeting
+unfoldable pub loads_with : SceneValue → List Load → Meeting → List Load
+loads_with s ws m = map (λ c. load_with s c (slice_index_or ws c no_load) m) (range_with_len 0 (length ws))
+
 -- what each clump feels of these meetings
 unfoldable pub loads_of : SceneValue → List Meeting → List Load
 loads_of s ms = map (load_on s ms) (range_with_len 0 (length s.clumps))
@@ -146,12 +150,21 @@ joined (Err e) rest = Err e
 joined (Ok b) (Err e) = Err e
 joined (Ok b) (Ok bs) = Ok (b ∷ bs)
 
+-- the first of some bodies; a clump for which there is none is at rest at the origin
+abbrev pub first_body : List Body → Body
+first_body [] = still_body
+first_body (b ∷ bs) = b
+
+-- the first of some loads; a clump for which there is none feels nothing
+abbrev pub first_load : List Load → Load
+first_load [] = no_load
+first_load (w ∷ ws) = w
+
 -- the bodies of the clumps from number k on after the step, or the first limit that one of them passes
 unfoldable pub advanced_from : SceneValue → ℕ → ℕ → List Clump → List Body → List Load → Result (List Body) End
 advanced_from s step k [] bs ws = Ok []
-advanced_from s step k (c ∷ cs) [] ws = Ok []
-advanced_from s step k (c ∷ cs) (b ∷ bs) [] = Ok []
-advanced_from s step k (c ∷ cs) (b ∷ bs) (w ∷ ws) = joined (ended step k (advance_of s c.t b w)) (advanced_from s step (k + 1) cs bs ws)
+advanced_from s step k (c ∷ cs) bs ws =
+    joined (ended step k (advance_of s c.t (first_body bs) (first_load ws))) (advanced_from s step (k + 1) cs (drop 1 bs) (drop 1 ws))
 
 -- the pair and the new displacement of a meeting
 unfoldable pub held_in : Meeting → Held

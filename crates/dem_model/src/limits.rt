@@ -6,6 +6,8 @@ pub const MAX_TEXT: usize = 16_777_216;
 pub const MAX_VOXELS: u32 = 1_048_576;
 /// The length of a voxel's edge, in u.
 pub const VOXEL: u64 = 65_536;
+/// One u per step, as a velocity counts it.
+pub const VELOCITY_UNIT: u64 = 65_536;
 /// Steps of a run.
 pub const MAX_STEPS: u32 = 1_000_000_000;
 /// The speed limit, in u per step times 2^16.
@@ -52,3 +54,11 @@ pub const MAX_NORM2: u64 = 4_611_686_018_427_387_904;
 pub const UNIT: u64 = 1_073_741_824;
 /// The greatest overlap with a wall, in u.
 pub const MAX_OVERLAP: u64 = 134_217_728;
+/// The greatest component of a tangential displacement, in u times 2^16.
+pub const MAX_DISPLACEMENT: u64 = 1_099_511_627_776;
+/// The greatest normal force, and the greatest component of a tangential force before friction bounds it.
+pub const MAX_FORCE: u64 = 4_611_686_018_427_387_904;
+/// The greatest component of a torque that turns a clump.
+pub const MAX_TORQUE: u128 = 1_237_940_039_285_380_274_899_124_224;
+/// The greatest drift limit: for how many steps a list of pairs may be used.
+pub const MAX_DRIFT: u32 = 1_024;

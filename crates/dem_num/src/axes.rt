@@ -69,6 +69,16 @@ pub fn sub3(a: Wide3, b: Wide3) -> Wide3
     }
 }
 
+/// The first place less the second, in u; both lie in or about a box.
+pub fn place_difference(a: Vec3, b: Vec3) -> Wide3
+    requires first { Within (widened a) (2 ^ 36) }
+    requires second { Within (widened b) (2 ^ 36) }
+    ensures value { result ≡ difference_of (widened a) (widened b) }
+    ensures size { Within result (2 ^ 37) }
+{
+    sub3(widen(a), widen(b))
+}
+
 /// The vector, each component multiplied by `k`.
 pub fn scale3(k: i128, a: Wide3) -> Wide3
     requires { Within (scaled k a) (2 ^ 127 - 1) }

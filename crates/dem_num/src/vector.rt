@@ -32,3 +32,8 @@ pub struct Rows {
     pub y: Vec3,
     pub z: Vec3,
 }
+
+/// The vector of zeros.
+pub const ZERO: Vec3 = Vec3 { x: 0, y: 0, z: 0 };
+/// The wide vector of zeros.
+pub const WIDE_ZERO: Wide3 = Wide3 { x: 0, y: 0, z: 0 };

@@ -2,8 +2,8 @@
 use Rattle.std.proofs.Common.{◌≡◌, ℕ, ◌-◌, ◌<◌, List, Option, None, Some, Ok, Err, sym, ap, ◌∙◌, arith, subst}
 use Rattle.std.specs.Io.KnownBytes.{Appends}
 use Rattle.dem_outside.specs.Faults.{Rose}
-use Rattle.dem_outside.specs.Known.{AppendsFront}
-use Rattle.dem_outside.proofs.Fronts.{AppendsFront-kept}
+use Rattle.dem_outside.specs.Known.{AppendsPrefix}
+use Rattle.dem_outside.proofs.Prefixes.{AppendsPrefix-kept}
 use Rattle.dem_model.specs.SceneValue.{SceneValue}
 use Rattle.dem_model.specs.Step.{step_of}
 use Rattle.dem_model.specs.Plain.{first_state}
@@ -37,9 +37,9 @@ begun old now faults faults_now s run st new here frame count =
 
 -- the put of the first frame failed
 pub not-begun : (old now : Option (List ℕ)) (s : SceneValue) (run : Run) (st : State) → run ≡ record { scene = s; state = first_state s } → st ≡ run.state
-    → AppendsFront old now (due_text s st) → AppendsFront old now (output_of s)
+    → AppendsPrefix old now (due_text s st) → AppendsPrefix old now (output_of s)
 not-begun old now s run st new here front =
-    first-failed old now s (subst (λ x. AppendsFront old now (due_text s x)) (here ∙ ap (λ (r : Run). r.state) new) front)
+    first-failed old now s (subst (λ x. AppendsPrefix old now (due_text s x)) (here ∙ ap (λ (r : Run). r.state) new) front)
 
 module _ (old mid now : Option (List ℕ)) (faults faults_mid faults_now : ℕ) (s : SceneValue) (run new : Run) (keeps : RunsOn old mid faults faults_mid s run) (below : run.state.step < s.steps) where
   -- a step was made
@@ -74,10 +74,10 @@ module _ (old mid now : Option (List ℕ)) (faults faults_mid faults_now : ℕ) 
   pub stopped : (f : RunFault) → MakesStep run new mid now faults_mid faults_now (Err f) → WritesRun s old now faults faults_now (Err f)
   stopped WriteFault made = (
     StandsAt-failed old mid now s run.state new.state keeps.stands below (subst (λ x. step_of x run.state ≡ Ok new.state) keeps.scene_is made.0)
-        (subst (λ x. AppendsFront mid now (due_text x new.state)) keeps.scene_is made.1),
+        (subst (λ x. AppendsPrefix mid now (due_text x new.state)) keeps.scene_is made.1),
     subst (λ n. Rose n faults_now) keeps.count made.2,
   )
-  stopped OutOfMemory made = (AppendsFront-kept old mid now (output_of s) (StandsAt-front old mid s run.state keeps.stands) made.0, made.1 ∙ keeps.count)
+  stopped OutOfMemory made = (AppendsPrefix-kept old mid now (output_of s) (StandsAt-front old mid s run.state keeps.stands) made.0, made.1 ∙ keeps.count)
 
 -- a count rose that had not risen before
 pub Rose-from : (faults mid now : ℕ) → mid ≡ faults → Rose mid now → Rose faults now

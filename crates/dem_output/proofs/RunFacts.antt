@@ -2,9 +2,9 @@
 use Rattle.std.proofs.Common.{◌≡◌, ℕ, zero, suc, ◌+◌, ◌-◌, ◌<◌, ◌≤◌, List, [], ◌++◌, Option, Ok, Err, refl, sym, ap, ◌∙◌, append_assoc, append-nil, arith, subst}
 use Rattle.std.specs.Io.KnownBytes.{Appends, Keeps}
 use Rattle.std.proofs.KnownBytes.{Appends-kept}
-use Rattle.dem_outside.specs.Known.{AppendsFront}
-use Rattle.dem_outside.proofs.Fronts.{AppendsFront-longer}
-use Rattle.dem_outside.proofs.Written.{Written, Written-start, Written-piece, Written-front, Written-failed, Written-all}
+use Rattle.dem_outside.specs.Known.{AppendsPrefix}
+use Rattle.dem_outside.proofs.Prefixes.{AppendsPrefix-longer}
+use Rattle.dem_outside.proofs.Written.{Written, Written-start, Written-piece, Written-prefix, Written-failed, Written-all}
 use Rattle.dem_model.specs.SceneValue.{SceneValue}
 use Rattle.dem_model.specs.Step.{step_of}
 use Rattle.dem_model.specs.Plain.{first_state, last_of}
@@ -45,9 +45,9 @@ StandsAt-start old now s first =
     }
 
 -- the put of the first frame failed
-pub first-failed : (old now : Option (List ℕ)) (s : SceneValue) → AppendsFront old now (due_text s (first_state s)) → AppendsFront old now (output_of s)
+pub first-failed : (old now : Option (List ℕ)) (s : SceneValue) → AppendsPrefix old now (due_text s (first_state s)) → AppendsPrefix old now (output_of s)
 first-failed old now s front =
-    subst (AppendsFront old now) (output_of-first s) (AppendsFront-longer old now (due_text s (first_state s)) _ front)
+    subst (AppendsPrefix old now) (output_of-first s) (AppendsPrefix-longer old now (due_text s (first_state s)) _ front)
 
 frames_from-next : (s : SceneValue) (k : ℕ) (st next : State) → step_of s st ≡ Ok next → frames_from s (suc k) st ≡ due_text s next ++ frames_from s k next
 unfolding frames_from
@@ -97,14 +97,14 @@ StandsAt-more old mid now s st next stands below e frame =
 
 -- the frame of the next state failed
 pub StandsAt-failed : (old mid now : Option (List ℕ)) (s : SceneValue) (st next : State) → StandsAt old mid s st → st.step < s.steps → step_of s st ≡ Ok next
-    → AppendsFront mid now (due_text s next) → AppendsFront old now (output_of s)
+    → AppendsPrefix mid now (due_text s next) → AppendsPrefix old now (output_of s)
 StandsAt-failed old mid now s st next stands below e front =
     Written-failed old mid now (due_text s next) (rest_of s next) (output_of s)
     (subst (λ l. Written old mid l (output_of s)) (rest-next s st next below e) stands.written) front
 
 -- what was written is a prefix of the output
-pub StandsAt-front : (old now : Option (List ℕ)) (s : SceneValue) (st : State) → StandsAt old now s st → AppendsFront old now (output_of s)
-StandsAt-front old now s st stands = Written-front old now (rest_of s st) (output_of s) stands.written
+pub StandsAt-front : (old now : Option (List ℕ)) (s : SceneValue) (st : State) → StandsAt old now s st → AppendsPrefix old now (output_of s)
+StandsAt-front old now s st stands = Written-prefix old now (rest_of s st) (output_of s) stands.written
 
 -- all but the end row was written of a run that ends so
 pub record LacksEnd (old now : Option (List ℕ)) (s : SceneValue) (last : Last) : Type 0 where
@@ -139,13 +139,13 @@ LacksEnd-closed old mid now s last lacks row =
     (Written-piece old mid now (last_text last) [] (output_of s) (subst (λ l. Written old mid l (output_of s)) (sym (append-nil (last_text last))) lacks.written) row)
 
 -- the put of the end row failed
-pub LacksEnd-failed : (old mid now : Option (List ℕ)) (s : SceneValue) (last : Last) → LacksEnd old mid s last → AppendsFront mid now (last_text last) → AppendsFront old now (output_of s)
+pub LacksEnd-failed : (old mid now : Option (List ℕ)) (s : SceneValue) (last : Last) → LacksEnd old mid s last → AppendsPrefix mid now (last_text last) → AppendsPrefix old now (output_of s)
 LacksEnd-failed old mid now s last lacks front =
     Written-failed old mid now (last_text last) [] (output_of s) (subst (λ l. Written old mid l (output_of s)) (sym (append-nil (last_text last))) lacks.written) front
 
 -- the sink kept what it held
 pub LacksEnd-kept : (old mid now : Option (List ℕ)) (s : SceneValue) (last : Last) → LacksEnd old mid s last → Keeps mid now → LacksEnd old now s last
 LacksEnd-kept old mid now s last lacks kept = record {
-  written = record { front = lacks.written.front; whole = lacks.written.whole; appended = Appends-kept old mid now lacks.written.front lacks.written.appended kept };
+  written = record { so_far = lacks.written.so_far; whole = lacks.written.whole; appended = Appends-kept old mid now lacks.written.so_far lacks.written.appended kept };
   ends = lacks.ends;
 }

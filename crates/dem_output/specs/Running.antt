@@ -2,7 +2,7 @@
 use Rattle.std.specs.Prelude.{◌≡◌, ℕ, List, [], Option, Result, Ok, Err, None, Some, if◌then◌else◌}
 use Rattle.std.specs.Io.KnownBytes.{Appends, Keeps}
 use Rattle.dem_outside.specs.Faults.{Rose}
-use Rattle.dem_outside.specs.Known.{AppendsFront}
+use Rattle.dem_outside.specs.Known.{AppendsPrefix}
 use Rattle.dem_model.specs.SceneValue.{SceneValue}
 use Rattle.dem_model.specs.Step.{step_of}
 use Rattle.dem_model.specs.Plain.{last_of}
@@ -25,11 +25,11 @@ MakesStep old new held now faults faults_now (Ok None) =
     (step_of old.scene old.state ≡ Ok new.state) × (new.scene ≡ old.scene) × Appends held now (due_text old.scene new.state) × (faults_now ≡ faults)
 MakesStep old new held now faults faults_now (Ok (Some e)) = (step_of old.scene old.state ≡ Err e) × Keeps held now × (faults_now ≡ faults)
 MakesStep old new held now faults faults_now (Err WriteFault) =
-    (step_of old.scene old.state ≡ Ok new.state) × AppendsFront held now (due_text old.scene new.state) × Rose faults faults_now
+    (step_of old.scene old.state ≡ Ok new.state) × AppendsPrefix held now (due_text old.scene new.state) × Rose faults faults_now
 MakesStep old new held now faults faults_now (Err OutOfMemory) = Keeps held now × (faults_now ≡ faults)
 
 -- a whole run: the output and how it ended; or a prefix of the output, and why
 abbrev pub WritesRun : SceneValue → (held now : Option (List ℕ)) → (faults faults_now : ℕ) → Result Last RunFault → Type 0
 WritesRun s held now faults faults_now (Ok last) = (last ≡ last_of s) × Appends held now (output_of s) × (faults_now ≡ faults)
-WritesRun s held now faults faults_now (Err WriteFault) = AppendsFront held now (output_of s) × Rose faults faults_now
-WritesRun s held now faults faults_now (Err OutOfMemory) = AppendsFront held now (output_of s) × (faults_now ≡ faults)
+WritesRun s held now faults faults_now (Err WriteFault) = AppendsPrefix held now (output_of s) × Rose faults faults_now
+WritesRun s held now faults faults_now (Err OutOfMemory) = AppendsPrefix held now (output_of s) × (faults_now ≡ faults)

@@ -80,7 +80,7 @@ fn write_due<K: Sink>(scene: &Scene, state: &State, out: &mut K) -> Result<(), W
     }
 }
 
-/// Whether the frame of state `step` is due.
+/// Whether the frame of state `step` is due: the step is a multiple of `every`, or the last.
 #[tactic(auto, unfolding(dem_model::specs::Output::is_due))]
 pub fn is_due(scene: &Scene, step: u32) -> bool
     ensures { result ≡ is_due_of scene.now step }

@@ -1,5 +1,5 @@
 pub mod FaultFacts
-pub mod Fronts
+pub mod Prefixes
 pub mod PutFacts
 pub mod ReadFacts
 pub mod Written

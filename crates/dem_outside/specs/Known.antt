@@ -3,9 +3,9 @@ use Rattle.std.specs.Prelude.{◌≡◌, ℕ, List, ◌++◌, Option, Result, Ma
 use Rattle.std.specs.Io.KnownBytes.{Appends}
 
 -- known bytes grew by a prefix of the text
-abbrev pub AppendsFront : Option (List ℕ) → Option (List ℕ) → List ℕ → Type 0
-AppendsFront old new text = (front : List ℕ) × (rest : List ℕ) × (front ++ rest ≡ text) × Appends old new front
+abbrev pub AppendsPrefix : Option (List ℕ) → Option (List ℕ) → List ℕ → Type 0
+AppendsPrefix old new text = (prefix : List ℕ) × (rest : List ℕ) × (prefix ++ rest ≡ text) × Appends old new prefix
 
 -- known bytes grew by the whole text where the call answered Ok, and else by a prefix of it
 abbrev pub PutAppends : {T E : Type 0} → Option (List ℕ) → Option (List ℕ) → Result T E → List ℕ → Type 0
-PutAppends old new result text = MatchResult result (λ _. Appends old new text) (λ _. AppendsFront old new text)
+PutAppends old new result text = MatchResult result (λ _. Appends old new text) (λ _. AppendsPrefix old new text)

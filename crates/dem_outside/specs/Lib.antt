@@ -1,4 +1,5 @@
 pub mod Faults
 pub mod Known
-pub mod Reads
-pub mod Puts
+pub mod MemSourceValue
+pub mod MemSinkValue
+pub mod Change

@@ -28,9 +28,9 @@ pub struct MemSink {
 
 impl Model for MemSink {
     ghost use Rattle.std.specs.Prelude.{◌≤◌, vec_len, vec_capacity};
-    ghost use Rattle.dem_outside.specs.Puts.{Puts};
+    ghost use Rattle.dem_outside.specs.MemSinkValue.{MemSinkValue};
 
-    ghost Value = { Puts };
+    ghost Value = { MemSinkValue };
 
     ghost view = { λ s. record { held = s.bytes.items; room = s.room; fails = s.fails; made = s.made; faults = s.faults } };
 
@@ -38,7 +38,7 @@ impl Model for MemSink {
 }
 
 impl MemSink {
-    ghost use Rattle.dem_outside.specs.Puts.{Puts};
+    ghost use Rattle.dem_outside.specs.MemSinkValue.{MemSinkValue};
 
     /// An empty sink of this room, before its first put. It takes the memory for its room here.
     pub fn new(alloc: Global, room: u32, fails: List<Fail>) -> Result<MemSink, OutOfMemory>
@@ -65,7 +65,7 @@ impl MemSink {
 }
 
 impl Sink for MemSink {
-    ghost use Rattle.dem_outside.specs.Puts.{Puts, TakesNext, after_put, after_fault};
+    ghost use Rattle.dem_outside.specs.MemSinkValue.{MemSinkValue, TakesNext, after_put, after_fault};
 
     ghost held = { λ s. Some s.held };
 

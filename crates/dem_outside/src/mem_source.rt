@@ -21,9 +21,9 @@ pub struct MemSource {
 
 impl Model for MemSource {
     ghost use Rattle.std.specs.Prelude.{◌<◌, ◌≤◌, drop, vec_len};
-    ghost use Rattle.dem_outside.specs.Reads.{Reads};
+    ghost use Rattle.dem_outside.specs.MemSourceValue.{MemSourceValue};
 
-    ghost Value = { Reads };
+    ghost Value = { MemSourceValue };
 
     ghost view = { λ s. record { left = drop s.at s.bytes.items; piece = s.piece; fails = s.fails; made = s.made; faults = s.faults } };
 
@@ -31,7 +31,7 @@ impl Model for MemSource {
 }
 
 impl MemSource {
-    ghost use Rattle.dem_outside.specs.Reads.{Reads};
+    ghost use Rattle.dem_outside.specs.MemSourceValue.{MemSourceValue};
 
     /// A source of these bytes, before its first read.
     pub fn new(bytes: Vec<u8>, piece: u32, fails: List<u64>) -> MemSource
@@ -50,7 +50,7 @@ impl MemSource {
 }
 
 impl Source for MemSource {
-    ghost use Rattle.dem_outside.specs.Reads.{Reads, FailsNext, given_of, after_read, after_fault};
+    ghost use Rattle.dem_outside.specs.MemSourceValue.{MemSourceValue, FailsNext, given_of, after_read, after_fault};
 
     ghost left = { λ s. Some s.left };
 
@@ -79,10 +79,10 @@ impl Source for MemSource {
     }
 }
 
-// Copies the first of these bytes, at most `most`, to the front of `buf`, and answers how many.
+// Copies the first of these bytes, at most `most`, to the beginning of `buf`, and answers how many.
 fn give(bytes: &[u8], most: usize, buf: &mut [u8]) -> usize
     ensures count { result ≡ min (min (length bytes.now) (length buf.old)) most }
-    ensures front { take result buf.new ≡ take result bytes.now }
+    ensures first { take result buf.new ≡ take result bytes.now }
 {
     let count = bytes.len().min(buf.len()).min(most);
     buf[..count].copy_from_slice(&bytes[..count]);

@@ -1,7 +1,5 @@
 //! A sink over a writer of std.
-ghost use Rattle.std.specs.Prelude.{◌≡◌, IfOk};
-ghost use Rattle.std.specs.Io.KnownBytes.{Keeps};
-ghost use Rattle.dem_outside.specs.Faults.{Counts};
+ghost use Rattle.std.specs.Prelude.{◌≡◌};
 
 use crate::failed::{Failed, count_one};
 use crate::sink::Sink;
@@ -23,18 +21,11 @@ impl<W: Write> RealSink<W> {
         RealSink { writer, faults: 0 }
     }
 
-    /// Passes on what the writer still keeps to itself; a buffered writer is done only once this answers Ok.
-    pub fn flush(&mut self) -> Result<(), Failed>
-        ensures count { Counts (⟦<RealSink<W> as Sink>⟧.faults self.old) (⟦<RealSink<W> as Sink>⟧.faults self.new) result }
-        ensures kept { Keeps (⟦<RealSink<W> as Sink>⟧.held self.old) (⟦<RealSink<W> as Sink>⟧.held self.new) }
+    /// The writer back, as the puts left it.
+    pub fn into_writer(self) -> W
+        ensures { W.contents result ≡ ⟦<RealSink<W> as Sink>⟧.held self }
     {
-        match self.writer.flush() {
-            Ok(()) => Ok(()),
-            Err(_) => {
-                count_one(&mut self.faults);
-                Err(Failed)
-            }
-        }
+        self.writer
     }
 }
 

@@ -13,7 +13,7 @@ pub trait Source {
     /// How many reads have failed.
     ghost faults: { Self → ℕ };
 
-    /// Moves the first bytes of what is left to the front of `buf`, and answers how many; none only at the end.
+    /// Moves the first bytes of what is left to the beginning of `buf`, and answers how many; none only at the end.
     fn read(&mut self, buf: &mut [u8]) -> Result<usize, Failed>
         requires { 0 < length buf.old }
         ensures count { Counts (faults self.old) (faults self.new) result }

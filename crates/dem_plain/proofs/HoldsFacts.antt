@@ -23,12 +23,14 @@ use Rattle.dem_model.specs.declared.state.Body.{Body}
 use Rattle.dem_model.specs.declared.state.Held.{Held}
 use Rattle.dem_model.specs.declared.state.Pair.{Pair}
 use Rattle.dem_model.proofs.PairFacts.{row_below-more, row_below-start, pairs_below-more, pairs_below-none}
-use Rattle.dem_model.proofs.CountFacts.{pair_count, most_pairs, pair_count-visited, pair_count-all}
-use Rattle.dem_model.proofs.LoadFacts.{loads_with, loads_of-push, length-loads_of, IsLoadOf, pairs_in, meetings_count, load_on-within}
+use Rattle.dem_model.proofs.CountFacts.{pair_count-visited, pair_count-all}
+use Rattle.dem_model.specs.Counts.{pair_count, most_pairs}
+use Rattle.dem_model.proofs.LoadFacts.{loads_of-push, length-loads_of, IsLoadOf, pairs_in, meetings_count, load_on-within}
+use Rattle.dem_model.specs.Step.{loads_with}
 use Rattle.dem_force.specs.Loads.{CanGrow, AreLoads}
 use Rattle.dem_plain.specs.declared.met.Met.{Met}
-use Rattle.dem_plain.specs.Run.{meeting_with, AreStored}
-use Rattle.dem_plain.specs.Holds.{Holds, one_apart}
+use Rattle.dem_plain.specs.Inside.{Holds, one_apart}
+use Rattle.dem_force.specs.Places.{meeting_with}
 
 -- the meetings of some pairs and one more
 pub meetings-push : (s : SceneValue) (bodies : List Body) (centers : List Vec3) (held : List Held) (ps : List Pair) (p : Pair) →
@@ -163,15 +165,3 @@ pub Holds-nothing : (s : SceneValue) (n : ℕ) (met : Met) → n ≡ length s.cl
     (bodies : List Body) (centers : List Vec3) (held : List Held) → Holds s bodies centers held [] met
 Holds-nothing s n met e loads kept bodies centers held =
     Holds-none s bodies centers held met (loads ∙ ap (λ k. replicate k no_load) e ∙ unfold loads_of in loads_none s (length s.clumps)) kept
-
--- the meeting of a pair that touches
-pub meeting_some : (s : SceneValue) (bodies : List Body) (centers : List Vec3) (p : Pair) (h : Option Vec3) (t : Touch) (push : Push) →
-    touch_of s centers p ≡ Some t → push ≡ push_of s bodies p t (unwrap_or h (narrowed no_vector)) → Some (meeting_with p push) ≡ meeting s bodies centers p h
-unfolding meeting
-meeting_some s bodies centers p h t push e push_is = rw e (ap (λ x. Some (meeting_with p x)) push_is)
-
--- a pair that doesn't touch has no meeting
-pub meeting_none : (s : SceneValue) (bodies : List Body) (centers : List Vec3) (p : Pair) (h : Option Vec3) →
-    touch_of s centers p ≡ None → None ≡ meeting s bodies centers p h
-unfolding meeting
-meeting_none s bodies centers p h e = rw e refl

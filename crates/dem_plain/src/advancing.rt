@@ -4,7 +4,7 @@ ghost use Rattle.std.specs.Prelude.{◌≡◌, ◌<◌, ◌≤◌, ◌^◌, leng
 ghost use Rattle.dem_model.specs.Motion.{AreSound};
 ghost use Rattle.dem_model.specs.Step.{no_load};
 ghost use Rattle.dem_force.specs.Loads.{AreLoads};
-ghost use Rattle.dem_plain.specs.Run.{Advances};
+ghost use Rattle.dem_plain.specs.Inside.{Advances};
 
 use crate::stop::Stop;
 use dem_force::advance;

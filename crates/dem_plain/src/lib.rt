@@ -12,6 +12,5 @@ mod met;
 mod plain_run;
 mod stop;
 
-pub use met::no_loads;
-pub use plain_run::{PlainRun, first_bodies};
+pub use plain_run::PlainRun;
 pub use stop::Stop;

@@ -1,68 +1,76 @@
 //! One pair of the plain step: what is held for it, and what it does where it touches.
 
 ghost use Rattle.std.specs.Prelude.{◌≡◌, ◌<◌, ◌≤◌, ◌^◌, IfSome, All};
-ghost use Rattle.std.specs.Option.{option_map, unwrap_or};
-ghost use Rattle.dem_num.specs.Vectors.{widened, narrowed, no_vector, Within};
-ghost use Rattle.dem_model.specs.Centers.{touch_of};
-ghost use Rattle.dem_model.specs.Motion.{AreInside, AreSound, IsPair};
-ghost use Rattle.dem_model.specs.Ranges.{IsTouch, IsSmall};
+ghost use Rattle.std.specs.Option.{option_map};
+ghost use Rattle.dem_num.specs.Vectors.{widened, Within};
+ghost use Rattle.dem_model.specs.Motion.{AreInside, IsPair};
+ghost use Rattle.dem_model.specs.Ranges.{IsSmall};
 ghost use Rattle.dem_model.specs.Step.{held_at, meeting, same_pair};
-ghost use Rattle.dem_plain.specs.Run.{AreStored, meeting_with};
+ghost use Rattle.dem_force.specs.Places.{meeting_with};
+ghost use Rattle.dem_force.specs.Sides.{AreSides};
+ghost use Rattle.dem_force.specs.Stored.{AreStored, IsStored};
 
-use dem_force::{push_between, touch};
-use dem_model::{Body, Held, Pair, Push, Steps, Touch};
+use dem_force::{Spheres, pushed};
+use dem_model::{Body, Held, Pair, Push, Steps};
 use dem_num::Vec3;
-use dem_shape::{Centers, Shapes};
+use dem_shape::Shapes;
 use std::marker::Brand;
 use std::sync::ledger::{Blank, Ledger};
 
 /// What a pair does where it touches.
 pub fn push_of(
     shapes: &Shapes,
-    centers: &Centers,
+    spheres: &Spheres,
     bodies: &[Body],
     held: &[Held],
     pair: Pair,
 ) -> Option<Push>
     requires pair { IsPair shapes.now pair }
-    requires centers { AreInside shapes.now centers.now }
-    requires sound { AreSound shapes.now bodies.now }
+    requires centers { AreInside shapes.now spheres.now.centers }
+    requires sides { AreSides shapes.now bodies.now spheres.now.sides }
     requires stored { AreStored held.now }
-    ensures value { option_map (meeting_with pair) result ≡ meeting shapes.now bodies.now centers.now pair (held_at held.now pair) }
+    ensures value { option_map (meeting_with pair) result ≡ meeting shapes.now bodies.now spheres.now.centers pair (held_at held.now pair) }
     ensures small { IfSome result IsSmall }
 {
-    match touched::<Brand>(shapes, centers, pair, Blank::new(1)) {
-        Some(touch) => Some(push_between(shapes, bodies, pair, touch, displacement(held, pair))),
-        None => None,
-    }
+    let h = displacement(held, pair);
+    counted::<Brand>(shapes, spheres, bodies, pair, h, Blank::new(1))
 }
 
-/// Whether and how a pair touches; the test is counted on a counter that nobody reads.
-fn touched<L: Ledger>(shapes: &Shapes, centers: &Centers, pair: Pair, blank: Blank) -> Option<Touch>
+/// What a pair does where it touches; the test is counted on a counter that nobody reads.
+fn counted<L: Ledger>(
+    shapes: &Shapes,
+    spheres: &Spheres,
+    bodies: &[Body],
+    pair: Pair,
+    held: Option<Vec3>,
+    blank: Blank,
+) -> Option<Push>
     requires name { blank.name ≡ L.name }
     requires parts { blank.parts ≡ L.parts }
     requires some { 0 < L.parts }
     requires pair { IsPair shapes.now pair }
-    requires centers { AreInside shapes.now centers.now }
-    ensures value { result ≡ touch_of shapes.now centers.now pair }
-    ensures ranges { IfSome result IsTouch }
+    requires centers { AreInside shapes.now spheres.now.centers }
+    requires sides { AreSides shapes.now bodies.now spheres.now.sides }
+    requires held { IsStored held }
+    ensures value { option_map (meeting_with pair) result ≡ meeting shapes.now bodies.now spheres.now.centers pair held }
+    ensures small { IfSome result IsSmall }
 {
     let mut tests = Steps::<L>::new(blank);
-    touch(shapes, centers, pair, &mut tests)
+    pushed(shapes, spheres, bodies, pair, held, &mut tests)
 }
 
-/// The displacement that is held for a pair, or zero.
-pub fn displacement(held: &[Held], pair: Pair) -> Vec3
+/// The displacement that is held for a pair, where there is one.
+pub fn displacement(held: &[Held], pair: Pair) -> Option<Vec3>
     requires { AreStored held.now }
-    ensures value { result ≡ unwrap_or (held_at held.now pair) (narrowed no_vector) }
-    ensures small { Within (widened result) (2 ^ 40) }
+    ensures value { result ≡ held_at held.now pair }
+    ensures small { IsStored result }
 {
     for entry in held {
         if is_same(entry.pair, pair) {
-            return entry.h;
+            return Some(entry.h);
         }
     }
-    Vec3 { x: 0, y: 0, z: 0 }
+    None
 }
 
 /// Whether two pairs are one.

@@ -1,22 +1,21 @@
 //! The meetings of a step: the sums per clump and the new displacements, pair by pair and row by row.
 
-ghost use Rattle.std.specs.Prelude.{◌≡◌, ◌+◌, ◌<◌, ◌≤◌, ◌++◌, [], OnOk, IfOk, List, length, replicate};
-ghost use Rattle.dem_model.specs.Step.{no_load};
-ghost use Rattle.dem_model.specs.Motion.{AreInside, AreSound};
+ghost use Rattle.std.specs.Prelude.{◌≡◌, ◌+◌, ◌<◌, ◌≤◌, ◌++◌, [], OnOk, IfOk, List, length};
+ghost use Rattle.dem_model.specs.Motion.{AreInside};
 ghost use Rattle.dem_model.specs.Pairs.{sphere_count, limit_of, pair_of, row_below, pairs_below, all_pairs};
 ghost use Rattle.dem_num.specs.declared.vector.Vec3.{Vec3};
 ghost use Rattle.dem_model.specs.declared.state.Body.{Body};
 ghost use Rattle.dem_model.specs.declared.state.Held.{Held};
 ghost use Rattle.dem_model.specs.declared.state.Pair.{Pair};
 ghost use Rattle.dem_force.specs.Loads.{AreLoads};
-ghost use Rattle.dem_plain.specs.Run.{AreStored};
-ghost use Rattle.dem_plain.specs.Holds.{Holds, one_apart};
+ghost use Rattle.dem_force.specs.Sides.{AreSides};
+ghost use Rattle.dem_force.specs.Stored.{AreStored};
+ghost use Rattle.dem_plain.specs.Inside.{Holds, one_apart};
 
 use crate::meeting::push_of;
-use dem_force::add_push;
+use dem_force::{Spheres, add_push, no_loads};
 use dem_model::{Body, Held, List, Load, OutOfMemory, Pair};
-use dem_num::Wide3;
-use dem_shape::{Centers, Shapes, is_apart};
+use dem_shape::{Shapes, is_apart};
 use std::alloc::Global;
 
 /// What the pairs so far have come to: a load per clump, and what is held of each pair that touches.
@@ -30,18 +29,18 @@ pub struct Met {
 pub fn all_met(
     alloc: Global,
     shapes: &Shapes,
-    centers: &Centers,
+    spheres: &Spheres,
     bodies: &[Body],
     held: &[Held],
 ) -> Result<Met, OutOfMemory>
-    requires centers { AreInside shapes.now centers.now }
-    requires sound { AreSound shapes.now bodies.now }
+    requires centers { AreInside shapes.now spheres.now.centers }
+    requires sides { AreSides shapes.now bodies.now spheres.now.sides }
     requires stored { AreStored held.now }
-    ensures { IfOk result (Holds shapes.now bodies.now centers.now held.now (all_pairs shapes.now)) }
+    ensures { IfOk result (Holds shapes.now bodies.now spheres.now.centers held.now (all_pairs shapes.now)) }
 {
     let mut met = nothing_met(alloc, shapes)?;
     for a in 0..shapes.spheres() {
-        meet_row(&mut met, shapes, centers, bodies, held, a)?;
+        meet_row(&mut met, shapes, spheres, bodies, held, a)?;
     }
     Ok(met)
 }
@@ -56,44 +55,26 @@ fn nothing_met(alloc: Global, shapes: &Shapes) -> Result<Met, OutOfMemory>
     })
 }
 
-/// A load of nothing per clump.
-pub fn no_loads(alloc: Global, shapes: &Shapes) -> Result<Vec<Load>, OutOfMemory>
-    ensures { IfOk result (λ loads. loads.items ≡ replicate (length shapes.now.clumps) no_load) }
-{
-    let nothing = Wide3 { x: 0, y: 0, z: 0 };
-    let mut loads = Vec::new(alloc);
-    for _ in 0..shapes.scene().clumps.len() {
-        let load = Load {
-            force: nothing,
-            torque: nothing,
-        };
-        if loads.push(load).is_err() {
-            return Err(OutOfMemory);
-        }
-    }
-    Ok(loads)
-}
-
 /// Adds the pairs of one sphere with all that is later.
 fn meet_row(
     met: &mut Met,
     shapes: &Shapes,
-    centers: &Centers,
+    spheres: &Spheres,
     bodies: &[Body],
     held: &[Held],
     a: u32,
 ) -> Result<(), OutOfMemory>
-    requires centers { AreInside shapes.now centers.now }
-    requires sound { AreSound shapes.now bodies.now }
+    requires centers { AreInside shapes.now spheres.now.centers }
+    requires sides { AreSides shapes.now bodies.now spheres.now.sides }
     requires stored { AreStored held.now }
     requires sphere { a < sphere_count shapes.now }
-    requires before { Holds shapes.now bodies.now centers.now held.now (pairs_below shapes.now a) met.old }
-    ensures { OnOk result (Holds shapes.now bodies.now centers.now held.now (pairs_below shapes.now (a + 1)) met.new) }
+    requires before { Holds shapes.now bodies.now spheres.now.centers held.now (pairs_below shapes.now a) met.old }
+    ensures { OnOk result (Holds shapes.now bodies.now spheres.now.centers held.now (pairs_below shapes.now (a + 1)) met.new) }
 {
     let _scene = shapes.scene();
     let limit = shapes.spheres() + shapes.walls();
     for b in a + 1..limit {
-        meet(met, shapes, centers, bodies, held, Pair { a, b })?;
+        meet(met, shapes, spheres, bodies, held, Pair { a, b })?;
     }
     Ok(())
 }
@@ -102,24 +83,24 @@ fn meet_row(
 fn meet(
     met: &mut Met,
     shapes: &Shapes,
-    centers: &Centers,
+    spheres: &Spheres,
     bodies: &[Body],
     held: &[Held],
     pair: Pair,
 ) -> Result<(), OutOfMemory>
-    requires centers { AreInside shapes.now centers.now }
-    requires sound { AreSound shapes.now bodies.now }
+    requires centers { AreInside shapes.now spheres.now.centers }
+    requires sides { AreSides shapes.now bodies.now spheres.now.sides }
     requires stored { AreStored held.now }
     requires first { pair.a < sphere_count shapes.now }
     requires second { pair.b < limit_of shapes.now }
     requires later { pair.a < pair.b }
     requires loads { AreLoads shapes.now met.old.loads.items }
-    ensures { OnOk result ((ps : List Pair) → Holds shapes.now bodies.now centers.now held.now ps met.old → Holds shapes.now bodies.now centers.now held.now (ps ++ one_apart shapes.now pair) met.new) }
+    ensures { OnOk result ((ps : List Pair) → Holds shapes.now bodies.now spheres.now.centers held.now ps met.old → Holds shapes.now bodies.now spheres.now.centers held.now (ps ++ one_apart shapes.now pair) met.new) }
 {
     if !is_apart(shapes, pair) {
         return Ok(());
     }
-    let Some(push) = push_of(shapes, centers, bodies, held, pair) else {
+    let Some(push) = push_of(shapes, spheres, bodies, held, pair) else {
         return Ok(());
     };
     met.held.push(Held { pair, h: push.h })?;

@@ -4,13 +4,17 @@ ghost use Rattle.std.specs.Prelude.{◌≡◌, ◌<◌, ◌≤◌, length, IfOk,
 ghost use Rattle.dem_model.specs.Motion.{AreInside, AreSound};
 ghost use Rattle.dem_model.specs.Plain.{first_state, plain_at};
 ghost use Rattle.dem_model.specs.Centers.{centers_of};
-ghost use Rattle.dem_plain.specs.Run.{AreStored, StepsPlain, IsAfter};
+ghost use Rattle.dem_force.specs.Sides.{AreSides};
+ghost use Rattle.dem_force.specs.Stored.{AreStored};
+ghost use Rattle.dem_plain.specs.Run.{Run, StepsPlain};
+ghost use Rattle.dem_plain.specs.Inside.{IsAfter, IsRun};
 
 use crate::advancing::advanced;
 use crate::met::all_met;
 use crate::stop::Stop;
-use dem_model::{Body, List, OutOfMemory, Scene, State};
-use dem_shape::{Centers, Shapes};
+use dem_force::Spheres;
+use dem_model::{List, OutOfMemory, Scene, State};
+use dem_shape::{Shapes, first_bodies};
 use std::alloc::Global;
 use std::marker::Model;
 
@@ -19,18 +23,16 @@ use std::marker::Model;
 pub struct PlainRun<'s> {
     alloc: Global,
     shapes: Shapes<'s>,
-    centers: Centers,
+    spheres: Spheres,
     state: State,
 }
 
 impl<'s> Model for PlainRun<'s> {
-    ghost use Rattle.dem_plain.specs.Run.{Run, IsRun};
-
     ghost Value = { Run };
 
     ghost view = { λ a. record { scene = a.shapes; state = a.state } };
 
-    ghost invariant = { λ a. IsRun a.shapes a.centers a.state };
+    ghost invariant = { λ a. IsRun a.shapes a.spheres a.state };
 }
 
 impl<'s> PlainRun<'s> {
@@ -40,7 +42,7 @@ impl<'s> PlainRun<'s> {
     {
         let shapes = Shapes::new(alloc, scene)?;
         let _scene = shapes.scene();
-        let centers = Centers::new(alloc, &shapes)?;
+        let spheres = Spheres::new(alloc, &shapes)?;
         let state = State {
             step: 0,
             bodies: first_bodies(alloc, scene)?,
@@ -49,7 +51,7 @@ impl<'s> PlainRun<'s> {
         Ok(PlainRun {
             alloc,
             shapes,
-            centers,
+            spheres,
             state,
         })
     }
@@ -59,9 +61,9 @@ impl<'s> PlainRun<'s> {
         requires { self.old.state.step < self.old.scene.steps }
         ensures { StepsPlain self.old self.new result }
     {
-        self.centers
+        self.spheres
             .fill(&self.shapes, self.state.bodies.as_slice());
-        match stepped(self.alloc, &self.shapes, &self.centers, &self.state) {
+        match stepped(self.alloc, &self.shapes, &self.spheres, &self.state) {
             Ok(next) => {
                 self.state = next;
                 Ok(())
@@ -83,28 +85,18 @@ impl<'s> PlainRun<'s> {
     }
 }
 
-/// The bodies of the clumps at the start.
-pub fn first_bodies(alloc: Global, scene: &Scene) -> Result<List<Body>, OutOfMemory>
-    ensures { IfOk result (λ bodies. bodies ≡ (first_state scene.now).bodies) }
-{
-    let mut bodies = List::new(alloc);
-    for clump in scene.clumps.as_slice() {
-        bodies.push(clump.body)?;
-    }
-    Ok(bodies)
-}
-
 /// The state after a state, or the limit that its step passes.
-fn stepped(alloc: Global, shapes: &Shapes, centers: &Centers, state: &State) -> Result<State, Stop>
+fn stepped(alloc: Global, shapes: &Shapes, spheres: &Spheres, state: &State) -> Result<State, Stop>
     requires sound { AreSound shapes.now state.now.bodies }
-    requires centers { centers.now ≡ centers_of shapes.now state.now.bodies }
+    requires centers { spheres.now.centers ≡ centers_of shapes.now state.now.bodies }
+    requires sides { AreSides shapes.now state.now.bodies spheres.now.sides }
     requires stored { AreStored state.now.held }
     requires goes_on { state.now.step < shapes.now.steps }
     ensures { IsAfter shapes.now state.now result }
 {
     let _scene = shapes.scene();
     let bodies = state.bodies.as_slice();
-    let met = all_met(alloc, shapes, centers, bodies, state.held.as_slice())?;
+    let met = all_met(alloc, shapes, spheres, bodies, state.held.as_slice())?;
     let step = state.step + 1;
     match advanced(alloc, shapes, bodies, met.loads.as_slice(), step) {
         Ok(bodies) => Ok(State {

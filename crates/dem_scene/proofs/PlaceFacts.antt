@@ -17,9 +17,9 @@ use Rattle.dem_model.specs.declared.state.Clump.{Clump}
 use Rattle.dem_model.specs.Reading.{◌>>=◌}
 use Rattle.dem_model.specs.ReadingScene.{centers_inside, check_clump, check_clumps}
 
--- the front of a list from a place on
-front_at : {A : Type 0} (xs : List A) (i : ℕ) (d : A) → i < length xs → drop i xs ≡ get_or xs i d ∷ drop (i + 1) xs
-front_at xs i d h = rw add-one (drop-cons xs i d h)
+-- the first of a list from a place on
+first_at : {A : Type 0} (xs : List A) (i : ℕ) (d : A) → i < length xs → drop i xs ≡ get_or xs i d ∷ drop (i + 1) xs
+first_at xs i d h = rw add-one (drop-cons xs i d h)
 
 -- no sphere is left
 pub centers_done : (s : SceneValue) (b : Body) (balls : List Ball) (i : ℕ) → i ≡ length balls → centers_inside s b (drop i balls) ≡ true
@@ -29,7 +29,7 @@ centers_done s b balls i e = let d : drop i balls ≡ [] = rw e (drop-length bal
 -- one sphere, whose center is known, and then those after it
 pub centers_step : (s : SceneValue) (b : Body) (balls : List Ball) (i : ℕ) (d : Ball) (place : Wide3) → i < length balls → place ≡ center_of b (get_or balls i d) → centers_inside s b (drop i balls) ≡ (in_box s place && centers_inside s b (drop (i + 1) balls))
 unfolding centers_inside
-centers_step s b balls i d place h e = ap (centers_inside s b) (front_at balls i d h) ∙ ap (λ p. in_box s p && centers_inside s b (drop (i + 1) balls)) (sym e)
+centers_step s b balls i d place h e = ap (centers_inside s b) (first_at balls i d h) ∙ ap (λ p. in_box s p && centers_inside s b (drop (i + 1) balls)) (sym e)
 
 -- where all are inside, each is
 pub centers_in_box : (s : SceneValue) (b : Body) (balls : List Ball) → centers_inside s b balls ≡ true → All (λ (x : Ball). IsTrue (in_box s (center_of b x))) balls
@@ -53,4 +53,4 @@ clumps_checked s cs i e = let d : drop i cs ≡ [] = rw e (drop-length cs) in ap
 -- one clump, of which the answer is known, and then those after it
 pub clumps_check : (s : SceneValue) (cs : List Clump) (i : ℕ) (d : Clump) (answer : Result ⊤ SceneFault) → i < length cs → answer ≡ check_clump s i (get_or cs i d) → check_clumps s i (drop i cs) ≡ (answer >>= λ _. check_clumps s (i + 1) (drop (i + 1) cs))
 unfolding check_clumps
-clumps_check s cs i d answer h e = ap (check_clumps s i) (front_at cs i d h) ∙ ap (λ r. r >>= λ _. check_clumps s (i + 1) (drop (i + 1) cs)) (sym e)
+clumps_check s cs i d answer h e = ap (check_clumps s i) (first_at cs i d h) ∙ ap (λ r. r >>= λ _. check_clumps s (i + 1) (drop (i + 1) cs)) (sym e)

@@ -10,7 +10,7 @@ use Rattle.dem_model.specs.declared.shape.Wall.{Wall}
 use Rattle.dem_model.specs.Sound.{IsForm, IsWall, IsClump, IsSound}
 use Rattle.dem_model.specs.ReadingKinds.{widest_of, greatest_radius}
 use Rattle.dem_scene.specs.Walls.{IsFormBeyond, IsWallBeyond}
-use Rattle.dem_scene.specs.Table.{IsTable}
+use Rattle.dem_scene.specs.Table.{KeepsTable}
 
 -- the spheres of a template are at most as wide as the widest
 AreAtMost : ℕ → Template → Type 0
@@ -65,7 +65,7 @@ wall-from_beyond : (materials : ℕ) (ts : List Template) (w : Wall) → IsWallB
 wall-from_beyond materials ts w h = record { form = form-from_beyond ts w.form h.form; mat = h.mat }
 
 -- what the table gives is sound, where each clump is
-pub sound_from_table : (s : SceneValue) → IsTable s → All (IsClump s) s.clumps → IsSound s
+pub sound_from_table : (s : SceneValue) → KeepsTable s → All (IsClump s) s.clumps → IsSound s
 sound_from_table s h clumps = record {
   nx = h.nx;
   ny = h.ny;

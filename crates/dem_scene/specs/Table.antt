@@ -10,7 +10,7 @@ use Rattle.dem_scene.specs.Walls.{IsWallBeyond}
 use Rattle.dem_scene.specs.Clumps.{IsClumpRead}
 
 -- every range, index and count of the table
-pub record IsTable (s : SceneValue) : Type 0 where
+pub record KeepsTable (s : SceneValue) : Type 0 where
   pub nx : IsFrom 1 MAX_VOXELS s.nx
   pub ny : IsFrom 1 MAX_VOXELS s.ny
   pub nz : IsFrom 1 MAX_VOXELS s.nz

@@ -7,7 +7,7 @@ ghost use Rattle.dem_model.specs.ReadingVectors.{vector_at};
 ghost use Rattle.dem_model.specs.ReadingScene.{version_of, check_version, table_of};
 ghost use Rattle.dem_model.specs.Sound.{IsFrom, IsBetween, EachBetween, IsClump};
 ghost use Rattle.dem_scene.specs.Gives.{Gives};
-ghost use Rattle.dem_scene.specs.Table.{IsTable};
+ghost use Rattle.dem_scene.specs.Table.{KeepsTable};
 
 use crate::clump::read_clumps;
 use crate::material::read_materials;
@@ -114,7 +114,7 @@ fn voxels(z: i64) -> u32
 #[tactic(auto, using(crate::proofs::GivesFacts::fails_then, crate::proofs::GivesFacts::fails_from), unfolding(dem_model::specs::ReadingScene::table_of, dem_model::specs::Spheres::spheres_of))]
 pub(crate) fn table(alloc: Global, value: &Value) -> Result<Draft, SceneFault>
     ensures value { Gives result (table_of (view value.now)) }
-    ensures range { IfOk result IsTable }
+    ensures range { IfOk result KeepsTable }
 {
     check(value, spot(Name::Scene, 0, 0))?;
     check_version(value)?;
@@ -148,7 +148,7 @@ pub(crate) fn table(alloc: Global, value: &Value) -> Result<Draft, SceneFault>
 /// The scene, where each clump is within the limits and in the box.
 #[tactic(auto, using(crate::proofs::TableFacts::sound_from_table))]
 pub(crate) fn scene(draft: Draft) -> Scene
-    requires ranges { IsTable draft }
+    requires ranges { KeepsTable draft }
     requires clumps { All (IsClump draft) draft.clumps }
     ensures { result ≡ draft }
 {

@@ -2,7 +2,7 @@
 //!
 //! `read_scene` reads the bytes, with one reader for each kind of object and one loop for lists of objects; `fault_line`
 //! makes the line of a refused text. Means: the `Reading` definitions of dem_model. Callers rest on: the answer is the one
-//! that `scene_from` has for the bytes, the scene and the fault alike, unless memory was wanting; the line is `fault_text`.
+//! that `scene_from` has for the bytes, the scene and the fault alike, unless there was no memory; the line is `fault_text`.
 //! Takes memory: `read_scene`. Not here: what a scene means (dem_model), where the line goes (dem_top).
 #![tactic(auto)]
 

@@ -24,7 +24,37 @@ fn is_known(object: Name, name: &str) -> bool
         Name::WallsPlane => matches!(name, "at" | "dir"),
         Name::WallsCylinder => matches!(name, "axis" | "at" | "r"),
         Name::Clumps => matches!(name, "t" | "p" | "v" | "q" | "w"),
-        _ => false,
+        // No object stands there.
+        Name::Version
+        | Name::Box
+        | Name::Steps
+        | Name::Every
+        | Name::Speed
+        | Name::Spin
+        | Name::Gravity
+        | Name::MaterialsKn
+        | Name::MaterialsKt
+        | Name::MaterialsBn
+        | Name::MaterialsBt
+        | Name::MaterialsMu
+        | Name::TemplatesMass
+        | Name::TemplatesMoments
+        | Name::TemplatesSpheresAt
+        | Name::TemplatesSpheresR
+        | Name::TemplatesSpheresMat
+        | Name::WallsForm
+        | Name::WallsPlaneAt
+        | Name::WallsPlaneDir
+        | Name::WallsCylinderAxis
+        | Name::WallsCylinderAt
+        | Name::WallsCylinderR
+        | Name::WallsMat
+        | Name::ClumpsT
+        | Name::ClumpsP
+        | Name::ClumpsV
+        | Name::ClumpsQ
+        | Name::ClumpsW
+        | Name::ClumpsTotal => false,
     }
 }
 

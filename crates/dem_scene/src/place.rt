@@ -9,7 +9,7 @@ ghost use Rattle.dem_model.specs.Spheres.{balls_of, center_of};
 ghost use Rattle.dem_model.specs.ReadingScene.{in_limits, centers_inside, is_inside, check_clump, check_clumps};
 ghost use Rattle.dem_model.specs.Sound.{IsBall, IsTemplate, IsClump};
 ghost use Rattle.dem_scene.specs.Clumps.{IsClumpRead};
-ghost use Rattle.dem_scene.specs.Table.{IsTable};
+ghost use Rattle.dem_scene.specs.Table.{KeepsTable};
 
 use crate::draft::Draft;
 use crate::vector::is_sized;
@@ -84,7 +84,7 @@ fn is_inside(draft: &Draft, body: Body, balls: &[Ball]) -> bool
 /// The spheres of a template.
 #[tactic(auto, using(crate::proofs::PlaceFacts::balls_in_range), unfolding(dem_model::specs::Spheres::balls_of))]
 fn balls(draft: &Draft, t: u32) -> &[Ball]
-    requires table { IsTable draft.now }
+    requires table { KeepsTable draft.now }
     requires there { t < length draft.now.templates }
     ensures value { result.now ≡ balls_of draft.now.templates t }
     ensures range { All (IsBall (length draft.now.materials)) result.now }
@@ -95,7 +95,7 @@ fn balls(draft: &Draft, t: u32) -> &[Ball]
 /// A clump within the limits, and then inside the box.
 #[tactic(auto, unfolding(dem_model::specs::ReadingScene::check_clump))]
 fn check_clump(draft: &Draft, i: u32, clump: Clump) -> Result<(), SceneFault>
-    requires table { IsTable draft.now }
+    requires table { KeepsTable draft.now }
     requires read { IsClumpRead draft.now.templates clump }
     ensures value { result ≡ check_clump draft.now i clump }
     ensures sound { OnOk result (IsClump draft.now clump) }
@@ -113,7 +113,7 @@ fn check_clump(draft: &Draft, i: u32, clump: Clump) -> Result<(), SceneFault>
 
 /// Some clumps, one after the other.
 fn check_each(draft: &Draft, clumps: &[Clump]) -> Result<(), SceneFault>
-    requires table { IsTable draft.now }
+    requires table { KeepsTable draft.now }
     requires read { All (IsClumpRead draft.now.templates) clumps.now }
     requires few { length clumps.now < 2 ^ 32 }
     ensures value { result ≡ check_clumps draft.now 0 clumps.now }
@@ -127,7 +127,7 @@ fn check_each(draft: &Draft, clumps: &[Clump]) -> Result<(), SceneFault>
 
 /// Each clump of a scene.
 pub(crate) fn check_clumps(draft: &Draft) -> Result<(), SceneFault>
-    requires { IsTable draft.now }
+    requires { KeepsTable draft.now }
     ensures value { result ≡ check_clumps draft.now 0 draft.now.clumps }
     ensures sound { OnOk result (All (IsClump draft.now) draft.now.clumps) }
 {

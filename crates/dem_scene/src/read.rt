@@ -37,7 +37,7 @@ fn scene_in(alloc: Global, value: &Value) -> Result<Scene, SceneFault>
     Ok(scene(draft))
 }
 
-/// Reads a scene text: the scene that the bytes are, or the first fault with its place; OutOfMemory where memory was wanting.
+/// Reads a scene text: the scene that the bytes are, or the first fault with its place; OutOfMemory where there was no memory.
 #[tactic(auto, using(crate::proofs::GivesFacts::fails_then, crate::proofs::GivesFacts::fails_from), unfolding(dem_model::specs::ReadingScene::scene_from))]
 pub fn read_scene(alloc: Global, bytes: &[u8]) -> Result<Scene, SceneFault>
     ensures { Gives result (scene_from bytes.now) }

@@ -80,7 +80,7 @@ fn fixed_line(text: &[u8]) -> Line
     line
 }
 
-/// The line of a fault, with its newline; want of memory has none.
+/// The line of a fault, with its newline; OutOfMemory has none.
 #[tactic(auto, unfolding(dem_model::specs::ReadingFaults::fault_text))]
 pub fn fault_line(fault: SceneFault) -> Line
     ensures { result.items ≡ fault_text fault }

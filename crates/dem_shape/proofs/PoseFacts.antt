@@ -75,11 +75,11 @@ pub pose_own : (s : SceneValue) (bodies : List Body) (k : ℕ) (pose : Pose) →
 pose_own s bodies k pose h = subst (λ n. IsPose s bodies n pose) (sym h.clump) h
 
 -- a sphere of the clump stands at the pose's place and its turned offset
-pub pose_places : (s : SceneValue) (bodies : List Body) (x : Sphere) (pose : Pose) (o : Vec3) → IsPose s bodies x.clump pose →
-    widened o ≡ turned_by pose.rows (widened x.ball.at) → narrowed (sum_of (widened pose.p) (widened o)) ≡ placed bodies x
+pub pose_places : (s : SceneValue) (bodies : List Body) (x : Sphere) (pose : Pose) (c : Vec3) → IsPose s bodies x.clump pose →
+    widened c ≡ sum_of (widened pose.p) (turned_by pose.rows (widened x.ball.at)) → c ≡ placed bodies x
 unfolding placed center_of
-pose_places s bodies x pose o h e =
-    ap (λ v. narrowed (sum_of (widened pose.p) v)) e
+pose_places s bodies x pose c h e =
+    ap narrowed e
     ∙ ap (λ p. narrowed (sum_of (widened p) (turned_by pose.rows (widened x.ball.at)))) h.place
     ∙ ap (λ r. narrowed (sum_of (widened (body_at bodies x.clump).p) (turned_by r (widened x.ball.at)))) h.rows
 

@@ -1,7 +1,9 @@
 //! Which pairs may touch at all.
 
-ghost use Rattle.std.specs.Prelude.{◌≡◌, ◌<◌};
-ghost use Rattle.dem_model.specs.Pairs.{sphere_count, apart};
+ghost use Rattle.std.specs.Prelude.{◌≡◌, ◌<◌, ◌↔◌};
+ghost use Rattle.std.specs.List.{Contains};
+ghost use Rattle.dem_model.specs.Motion.{IsPair};
+ghost use Rattle.dem_model.specs.Pairs.{sphere_count, apart, all_pairs};
 
 use crate::shapes::Shapes;
 use dem_model::Pair;
@@ -19,3 +21,8 @@ pub fn is_apart(shapes: &Shapes, pair: Pair) -> bool
         true
     }
 }
+
+/// The list of all pairs has each pair that may touch, and no other: a law for those who call, which does nothing.
+pub fn all_pairs_law(shapes: &Shapes, pair: Pair)
+    ensures { Contains (all_pairs shapes.now) pair ↔ IsPair shapes.now pair }
+{}

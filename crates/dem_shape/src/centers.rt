@@ -8,7 +8,7 @@ ghost use Rattle.dem_model.specs.Pairs.{sphere_count};
 use crate::pose::{Pose, own_place};
 use crate::shapes::Shapes;
 use dem_model::{Body, OutOfMemory};
-use dem_num::Vec3;
+use dem_num::{Vec3, ZERO};
 use dem_turn::is_zero;
 use std::alloc::Global;
 use std::marker::Model;
@@ -35,7 +35,7 @@ impl Centers {
     {
         let mut items = Vec::new(alloc);
         for _ in 0..shapes.spheres() {
-            if items.push(Vec3 { x: 0, y: 0, z: 0 }).is_err() {
+            if items.push(ZERO).is_err() {
                 return Err(OutOfMemory);
             }
         }

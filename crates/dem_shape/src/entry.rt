@@ -5,7 +5,7 @@ ghost use Rattle.dem_model.specs.Sound.{IsBall};
 ghost use Rattle.dem_model.specs.Spheres.{sphere_of};
 ghost use Rattle.dem_shape.specs.Table.{table_entry_of};
 
-use dem_model::{Ball, Scene, VOXEL};
+use dem_model::{Ball, Scene, VELOCITY_UNIT};
 use dem_turn::{arm, swing_limit};
 
 /// A sphere: its clump, what its template says of it, its arm and its movement bound, in u.
@@ -25,7 +25,7 @@ impl Entry {
         ensures { result ≡ table_entry_of scene.now (sphere_of clump ball) }
     {
         let arm = arm(ball.at);
-        let per_step = scene.speed.div_ceil(VOXEL) + swing_limit(scene.spin, arm);
+        let per_step = scene.speed.div_ceil(VELOCITY_UNIT) + swing_limit(scene.spin, arm);
         Entry {
             clump,
             ball,

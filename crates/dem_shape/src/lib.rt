@@ -4,7 +4,7 @@
 //! movement bound in constant time; `is_apart` tells which pairs may touch at all; `Centers` holds a center per sphere,
 //! `Snapshot` the bodies of a step, `Pose` one clump's matrix. Means: `Spheres`, `Pairs`, `Centers`, `Motion` of dem_model. Callers rest on: a Shapes
 //! is seen as its scene, a Centers as the list of centers; `fill` makes them those of the bodies.
-//! Takes memory: the three `new`. Not here: touch (dem_force), rotations (dem_turn).
+//! Takes memory: the three `new`, `first_bodies`. Not here: touch (dem_force), rotations (dem_turn).
 #![tactic(auto)]
 
 mod apart;
@@ -13,11 +13,13 @@ mod entry;
 mod pose;
 mod shapes;
 mod snapshot;
+mod start;
 #[cfg(test)]
 mod tests;
 
-pub use apart::is_apart;
+pub use apart::{all_pairs_law, is_apart};
 pub use centers::Centers;
-pub use pose::Pose;
+pub use pose::{Pose, sphere_center};
 pub use shapes::Shapes;
 pub use snapshot::Snapshot;
+pub use start::first_bodies;

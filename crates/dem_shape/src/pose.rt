@@ -1,9 +1,8 @@
 //! A body's place and matrix, made once for all spheres of its clump.
 
 ghost use Rattle.std.specs.Prelude.{◌≡◌, ◌<◌, ◌≤◌, ◌^◌, length, true};
-ghost use Rattle.std.specs.Prelude.{◌+ℤ◌};
-ghost use Rattle.dem_num.specs.Numbers.{AtMost};
-ghost use Rattle.dem_num.specs.Vectors.{widened, narrowed, sum_of, is_zero, Within};
+ghost use Rattle.dem_num.specs.Vectors.{widened, sum_of, is_zero, Within};
+ghost use Rattle.dem_num.specs.Rotations.{EntriesWithin, turned_by};
 ghost use Rattle.dem_model.specs.Centers.{placed};
 ghost use Rattle.dem_model.specs.Motion.{AreSound};
 ghost use Rattle.dem_model.specs.Pairs.{sphere_count, sphere_at};
@@ -11,7 +10,7 @@ ghost use Rattle.dem_shape.specs.Pose.{IsPose};
 
 use crate::shapes::Shapes;
 use dem_model::Body;
-use dem_num::{Rows, Vec3};
+use dem_num::{Rows, Vec3, add3_short};
 use dem_turn::{matrix, turned};
 
 /// A clump's number, its position in u, and the matrix of its quaternion.
@@ -60,7 +59,7 @@ impl Pose {
         ensures { result ≡ placed bodies.now (sphere_at shapes.now s) }
     {
         let ball = shapes.ball_of(s);
-        translated(self.p, turned(&self.rows, ball.at))
+        sphere_center(self.p, &self.rows, ball.at)
     }
 }
 
@@ -75,24 +74,12 @@ pub fn own_place(shapes: &Shapes, bodies: &[Body], s: u32) -> Vec3
     bodies[shapes.clump_of(s) as usize].p
 }
 
-/// A place, moved by an offset.
-fn translated(place: Vec3, offset: Vec3) -> Vec3
-    requires place_small { Within (widened place) (2 ^ 36) }
-    requires offset_small { Within (widened offset) (2 ^ 28) }
-    ensures { result ≡ narrowed (sum_of (widened place) (widened offset)) }
+/// The center of a sphere, from its clump's place and matrix and its own offset, in u.
+pub fn sphere_center(p: Vec3, rows: &Rows, at: Vec3) -> Vec3
+    requires place { Within (widened p) (2 ^ 37) }
+    requires entries { EntriesWithin rows.now (2 ^ 30) }
+    requires offset { Within (widened at) (2 ^ 26) }
+    ensures { widened result ≡ sum_of (widened p) (turned_by rows.now (widened at)) }
 {
-    Vec3 {
-        x: moved(place.x, offset.x),
-        y: moved(place.y, offset.y),
-        z: moved(place.z, offset.z),
-    }
-}
-
-/// A place along one axis, moved by an offset.
-fn moved(place: i64, offset: i64) -> i64
-    requires place_small { AtMost place (2 ^ 36) }
-    requires offset_small { AtMost offset (2 ^ 28) }
-    ensures { result ≡ place +ℤ offset }
-{
-    place + offset
+    add3_short(p, turned(rows, at))
 }

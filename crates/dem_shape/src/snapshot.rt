@@ -3,8 +3,8 @@
 ghost use Rattle.std.specs.Prelude.{◌≡◌, IfOk, replicate};
 ghost use Rattle.dem_model.specs.Centers.{still_body};
 
-use dem_model::{Body, List, OutOfMemory};
-use dem_num::{Quat, Vec3};
+use dem_model::{Body, List, OutOfMemory, UNIT};
+use dem_num::{Quat, ZERO};
 use std::alloc::Global;
 
 /// The number of a step, and the body of each clump there.
@@ -32,17 +32,16 @@ impl Snapshot {
 fn at_rest() -> Body
     ensures { result ≡ still_body }
 {
-    let zero = Vec3 { x: 0, y: 0, z: 0 };
     let q = Quat {
-        a: 1 << 30,
+        a: UNIT as i64,
         b: 0,
         c: 0,
         d: 0,
     };
     Body {
-        p: zero,
+        p: ZERO,
         q,
-        v: zero,
-        w: zero,
+        v: ZERO,
+        w: ZERO,
     }
 }

@@ -5,7 +5,6 @@ use Rattle.dem_num.specs.declared.vector.Vec3.{Vec3}
 use Rattle.dem_model.specs.SceneValue.{SceneValue}
 use Rattle.dem_model.specs.Carry.{kept_of, Agrees}
 use Rattle.dem_model.specs.Motion.{AreSound}
-use Rattle.dem_model.specs.Pairs.{sphere_count}
 use Rattle.dem_model.specs.Plain.{plain_at}
 use Rattle.dem_model.specs.Ranges.{IsSmall}
 use Rattle.dem_model.specs.Sound.{IsSound}
@@ -14,25 +13,22 @@ use Rattle.dem_model.specs.declared.law.Load.{Load}
 use Rattle.dem_model.specs.declared.state.Body.{Body}
 use Rattle.dem_model.specs.declared.state.Held.{Held}
 use Rattle.dem_model.specs.declared.state.Pair.{Pair}
-use Rattle.dem_model.proofs.LoadFacts.{loads_with}
+use Rattle.dem_model.specs.Step.{loads_with}
+use Rattle.dem_model.specs.declared.limits.TheConstants.{MAX_DRIFT}
+use Rattle.dem_force.specs.Places.{HasPlaces}
+use Rattle.dem_force.specs.declared.pushing.spheres.Spheres.{Spheres}
 use Rattle.dem_hist.specs.Carrying.{HeldByPlace}
 use Rattle.dem_step.specs.Contacts.{AreContacts, held_by, IsHeldIn}
 use Rattle.dem_step.specs.Stepper.{IsListOfRun, state_at}
-use Rattle.dem_step.specs.declared.spheres.Spheres.{Spheres}
 
 -- the step of the list in use, where one is
 abbrev pub from_of : Bool → ℕ → Option ℕ
 from_of listed from = if listed then Some from else None
 
--- there is a center and a side for each sphere
-pub record HasPlaces (s : SceneValue) (spheres : Spheres) : Type 0 where
-  pub centers : length spheres.centers ≡ sphere_count s
-  pub sides : length spheres.sides ≡ sphere_count s
-
 -- what a run on lists keeps: it stands at a state of the plain run, with its bodies; its list is of that run, and has the displacements that the next step needs, and no other
 pub record IsStepper (s : SceneValue) (drift step : ℕ) (listed : Bool) (bodies : List Body) (contacts : HeldByPlace) : Type 0 where
   pub scene : IsSound s
-  pub drift_le : drift ≤ 1024
+  pub drift_le : drift ≤ MAX_DRIFT
   pub plain : plain_at s step ≡ Some (state_at s step)
   pub bodies_are : bodies ≡ (state_at s step).bodies
   pub sound : AreSound s bodies

@@ -1,103 +1,106 @@
 -- What the parts of a job promise, put together.
-use Rattle.std.proofs.Common.{◌≡◌, ℕ, ◌<◌, ◌≤◌, true, List, ◌++◌, length, Option, None, Some, Result, Ok, Err, refl, sym, ap, ◌∙◌, ⊎_elim, length-append, append-nil, arith, subst}
-use Rattle.std.proofs.lemmas.Bool.{cases_lt, lt-ltb}
-use Rattle.std.specs.Io.KnownBytes.{Consumes, IsAtEnd}
-use Rattle.std.proofs.KnownBytes.{Keeps-refl}
-use Rattle.std.specs.declared.alloc.Global.{Global}
-use Rattle.std.specs.declared.string.String.{String}
-use Rattle.dem_outside.specs.Known.{AppendsFront}
-use Rattle.dem_outside.proofs.Fronts.{AppendsFront-nil}
+use Rattle.std.proofs.Common.{◌≡◌, ℕ, List, [], Ok, Err, inl, refl, sym, ap, ◌∙◌, subst}
+use Rattle.std.proofs.KnownBytes.{Keeps-refl, Appends-nil}
+use Rattle.dem_outside.specs.Change.{Stream, Change, Gains, GainsPrefix}
+use Rattle.dem_outside.proofs.Prefixes.{AppendsPrefix-nil}
 use Rattle.dem_model.specs.SceneValue.{SceneValue}
-use Rattle.dem_model.specs.Output.{output_of}
 use Rattle.dem_model.specs.ReadingScene.{scene_from}
-use Rattle.dem_model.specs.declared.fault.SceneFault.{SceneFault}
-use Rattle.dem_model.specs.declared.fault.SceneFault.TheVariants as scenes
-use Rattle.dem_model.specs.declared.limits.TheConstants.{MAX_TEXT}
+use Rattle.dem_model.specs.ReadingFaults.{fault_text}
+use Rattle.dem_model.specs.Output.{output_of}
 use Rattle.dem_model.specs.declared.state.Last.{Last}
-use Rattle.dem_scene.specs.Gives.{Fails}
+use Rattle.dem_model.specs.declared.state.Last.TheVariants as lasts
 use Rattle.dem_output.specs.declared.running.RunFault.{RunFault}
-use Rattle.dem_output.specs.declared.running.RunFault.TheVariants as running
+use Rattle.dem_output.specs.declared.running.RunFault.TheVariants as runs
 use Rattle.dem_output.specs.Running.{WritesRun}
-use Rattle.dem_top.specs.Stops.{scene_stop, run_stop}
-use Rattle.dem_top.specs.Verdicts.{asks_plain, Runs, scene_verdict, verdict_of, out_text}
-use Rattle.dem_top.specs.Jobs.{ForLeft, WritesScene, WritesFront, Does}
+use Rattle.dem_top.specs.declared.outcome.NotDone.{NotDone}
+use Rattle.dem_top.specs.declared.outcome.NotDone.TheVariants as stops
+use Rattle.dem_top.specs.declared.refusal.Refusal.TheVariants as refusals
+use Rattle.dem_top.specs.Verdicts.{Verdict, Refused, Written, Exactly, MayGain, no_rows, out_text, run_status, run_verdict, on_scene, plain_verdict, verdict_status}
+use Rattle.dem_top.specs.Jobs.{Job, ForLeft, plain_job}
+use Rattle.dem_top.specs.Answers.{Fulfils, Begins}
+use Rattle.dem_top.specs.Refusals.{outcome_status}
+use Rattle.dem_top.specs.Parts.{run_stop, run_outcome, ReadsScene, DoesQuietly, idle}
+use Rattle.dem_top.proofs.LeftFacts.{ForTold-weaker, ForTold-all}
 
--- ---- the bytes that are left
+-- ---- nothing written, nothing noted
 
--- what follows from a fact of the bytes holds of them too
-pub ForLeft-weaker : (left : Option (List ℕ)) (P Q : List ℕ → Type 0) → ((bytes : List ℕ) → P bytes → Q bytes) → ForLeft left P → ForLeft left Q
-ForLeft-weaker None P Q f p = (p.0, f p.0 p.1)
-ForLeft-weaker (Some bytes) P Q f p = f bytes p
+-- something may be noted by any verdict
+pub some-rows : (v : Verdict) → (rows : List ℕ) × MayGain v rows
+some-rows (Refused status line) = (line, refl)
+some-rows (Written status text (Exactly rows)) = (rows, refl)
 
--- a text past the greatest length is refused for it
-too-long : (bytes : List ℕ) → MAX_TEXT < length bytes → scene_from bytes ≡ Err scenes.TooLong
-unfolding scene_from
-too-long bytes long = let e = lt-ltb MAX_TEXT (length bytes) long in rw e
+-- nothing is a prefix of anything
+pub begins-nothing : (job : Job) (out note : Stream) (bytes : List ℕ) → Begins job (idle out) (idle note) bytes
+begins-nothing job out note bytes =
+    let some = some-rows (job.verdict bytes) in
+    record {
+      written = AppendsPrefix-nil out.bytes (out_text (job.verdict bytes));
+      rows = some.0;
+      may_be = some.1;
+      noted = AppendsPrefix-nil note.bytes some.0;
+    }
 
--- what was read has the scene, or the fault, of all that was left
-pub same-scene : (left rest : Option (List ℕ)) (read : List ℕ) → Consumes left rest read → (length read ≤ MAX_TEXT → IsAtEnd rest)
-    → ForLeft left (λ bytes. scene_from bytes ≡ scene_from read)
-same-scene None rest read all ends = (read, refl)
-same-scene (Some bytes) None read all ends = absurd all
-same-scene (Some bytes) (Some others) read all ends =
-    ⊎_elim
-    (λ (long : MAX_TEXT < length read). too-long bytes (omega (arith, ap length all, length-append read others)) ∙ sym (too-long read long))
-    (λ (short : length read ≤ MAX_TEXT). ap scene_from (all ∙ ap (λ (l : List ℕ). read ++ l) (ends short) ∙ append-nil read))
-    (cases_lt MAX_TEXT (length read))
+-- ---- the plain run
 
--- good words deserve what the bytes deserve
-pub verdict-good : (words : List (String Global)) (bytes : List ℕ) (r : Result SceneValue SceneFault) → asks_plain words ≡ true → scene_from bytes ≡ r → verdict_of words bytes ≡ scene_verdict r
-unfolding verdict_of
-verdict-good words bytes r good is = rw (good, is)
+-- what a text comes to whose reading is known
+plain-is : (bytes : List ℕ) (s : SceneValue) → scene_from bytes ≡ Ok s → plain_verdict bytes ≡ run_verdict no_rows s
+unfolding plain_verdict
+plain-is bytes s is = ap (on_scene (run_verdict no_rows)) is
 
--- ---- the parts
+plain-refused : (bytes : List ℕ) (fault : _) → scene_from bytes ≡ Err fault → plain_verdict bytes ≡ Refused 2 (fault_text fault)
+unfolding plain_verdict
+plain-refused bytes fault is = ap (on_scene (run_verdict no_rows)) is
 
-module _ (words : List (String Global)) (left rest : Option (List ℕ)) (reads reads_now : ℕ) (read : List ℕ) (good : asks_plain words ≡ true) (same_count : reads_now ≡ reads) (all : Consumes left rest read)
-    (ends : length read ≤ MAX_TEXT → IsAtEnd rest) where
-  -- the verdict of what was read is that of what was left
-  verdicts : (r : Result SceneValue SceneFault) → scene_from read ≡ r → ForLeft left (λ bytes. verdict_of words bytes ≡ scene_verdict r)
-  verdicts r is =
-      ForLeft-weaker left (λ bytes. scene_from bytes ≡ scene_from read) (λ bytes. verdict_of words bytes ≡ scene_verdict r) (λ bytes same. verdict-good words bytes r good (same ∙ is))
-      (same-scene left rest read all ends)
+-- there was no scene
+pub plain-unread : (source : Change) (out : Stream) (stop : NotDone) → ReadsScene source (Err stop) → DoesQuietly plain_job source (idle out) (Err stop)
+plain-unread source out (stops.Refused (refusals.Scene fault)) read = λ note. (
+  ForTold-weaker source.before.bytes (λ bytes. scene_from bytes ≡ Err fault) (λ bytes. plain_verdict bytes ≡ Refused 2 (fault_text fault)) (λ bytes is. plain-refused bytes fault is) read.0,
+  Keeps-refl out.bytes,
+  Keeps-refl note.bytes,
+  read.1,
+  refl,
+  refl,
+)
+plain-unread source out (stops.Refused refusals.Usage) read = absurd read
+plain-unread source out stops.ReadFailed read = λ note. (read, Keeps-refl out.bytes, Keeps-refl note.bytes, refl, refl)
+plain-unread source out stops.WriteFailed read = absurd read
+plain-unread source out stops.OutOfMemory read = λ note. (ForTold-all source.before.bytes (Begins plain_job (idle out) (idle note)) (begins-nothing plain_job out note), read, refl, refl)
 
-  -- nothing is left behind a scene
-  at-end : (s : SceneValue) → scene_from read ≡ Ok s → IsAtEnd rest
-  at-end s is =
-      ⊎_elim
-      (λ (long : MAX_TEXT < length read). absurd (let fault = too-long read long in cc))
-      (λ (short : length read ≤ MAX_TEXT). ends short)
-      (cases_lt MAX_TEXT (length read))
-
-  -- the scene text was refused
-  pub scene-refused : (held : Option (List ℕ)) (puts : ℕ) (fault : SceneFault) → Fails fault (scene_from read) → Does words left rest reads reads_now held held puts puts (Err (scene_stop fault))
-  scene-refused held puts scenes.OutOfMemory fails = (
-    good,
-    ForLeft-weaker left (λ bytes. scene_from bytes ≡ scene_from read) (WritesFront words held held) (λ bytes _. AppendsFront-nil held (out_text (verdict_of words bytes)))
-        (same-scene left rest read all ends),
-    same_count,
-    refl,
-  )
-  scene-refused held puts fault fails = (verdicts (Err fault) fails, Keeps-refl held, same_count, refl)
-
-  -- a prefix of the scene's output is one of what is deserved
-  fronts : (held now : Option (List ℕ)) (s : SceneValue) → scene_from read ≡ Ok s → AppendsFront held now (output_of s) → ForLeft left (WritesFront words held now)
-  fronts held now s is front =
-      ForLeft-weaker left (λ bytes. verdict_of words bytes ≡ Runs s) (WritesFront words held now)
-      (λ bytes v. subst (λ w. AppendsFront held now (out_text w)) (sym v) front) (verdicts (Ok s) is)
+module _ (source out : Change) (s : SceneValue) (read : ReadsScene source (Ok s)) where
+  -- a prefix of the output was written
+  begun : GainsPrefix out (output_of s) → (note : Stream) → ForLeft source (Begins plain_job out (idle note))
+  begun written note =
+      ForTold-weaker source.before.bytes (λ bytes. scene_from bytes ≡ Ok s) (Begins plain_job out (idle note))
+      (λ bytes is. record {
+        written = subst (λ v. GainsPrefix out (out_text v)) (sym (plain-is bytes s is)) written;
+        rows = [];
+        may_be = subst (λ v. MayGain v []) (sym (plain-is bytes s is)) refl;
+        noted = AppendsPrefix-nil note.bytes [];
+      }) read.0
 
   -- the run stopped
-  pub run-stopped : (held now : Option (List ℕ)) (puts puts_now : ℕ) (s : SceneValue) (fault : RunFault) → scene_from read ≡ Ok s → WritesRun s held now puts puts_now (Err fault)
-      → Does words left rest reads reads_now held now puts puts_now (Err (run_stop fault))
-  run-stopped held now puts puts_now s running.WriteFault is run = (good, fronts held now s is run.0, same_count, run.1)
-  run-stopped held now puts puts_now s running.OutOfMemory is run = (good, fronts held now s is run.0, same_count, run.1)
+  pub plain-stopped : (fault : RunFault) → WritesRun s out.before.bytes out.after.bytes out.before.faults out.after.faults (Err fault) → DoesQuietly plain_job source out (Err (run_stop fault))
+  plain-stopped runs.WriteFault run = λ note. (begun run.0 note, read.2, inl run.1)
+  plain-stopped runs.OutOfMemory run = λ note. (begun run.0 note, read.2, run.1, refl)
+
+  -- the status of a run is that of its end
+  same-status : (last : Last) → outcome_status (run_outcome last) ≡ run_status last
+  same-status (lasts.Done step) = refl
+  same-status (lasts.Passed e) = refl
 
   -- the run was made
-  pub run-made : (held now : Option (List ℕ)) (puts puts_now : ℕ) (s : SceneValue) (last : Last) → scene_from read ≡ Ok s → WritesRun s held now puts puts_now (Ok last)
-      → Does words left rest reads reads_now held now puts puts_now (Ok last)
-  run-made held now puts puts_now s last is run = (
-    ForLeft-weaker left (λ bytes. verdict_of words bytes ≡ Runs s) (WritesScene words held now last) (λ bytes v. record { scene = s; deserved = v; written = run.1; last_is = run.0 })
-        (verdicts (Ok s) is),
-    at-end s is,
-    same_count,
+  pub plain-written : (last : Last) → WritesRun s out.before.bytes out.after.bytes out.before.faults out.after.faults (Ok last) → DoesQuietly plain_job source out (Ok (run_outcome last))
+  plain-written last run = λ note. (
+    ForTold-weaker source.before.bytes (λ bytes. scene_from bytes ≡ Ok s) (Fulfils plain_job out (idle note) (outcome_status (run_outcome last)))
+        (λ bytes is. record {
+          status_is = same-status last ∙ ap run_status run.0 ∙ ap verdict_status (sym (plain-is bytes s is));
+          written = subst (λ v. Gains out (out_text v)) (sym (plain-is bytes s is)) run.1;
+          rows = [];
+          may_be = subst (λ v. MayGain v []) (sym (plain-is bytes s is)) refl;
+          noted = Appends-nil note.bytes;
+        }) read.0,
+    read.1,
+    read.2,
     run.2,
+    refl,
   )

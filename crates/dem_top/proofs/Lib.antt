@@ -1,3 +1,5 @@
+pub mod LeftFacts
+pub mod SceneFacts
 pub mod JobFacts
 pub mod AnswerFacts
-pub mod PromiseFacts
+pub mod StreamFacts

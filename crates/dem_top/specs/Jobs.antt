@@ -1,59 +1,76 @@
--- What the parts of a call promise: the reading, the job, and the line on `note`.
-use Rattle.std.specs.Prelude.{◌≡◌, ℕ, ◌+◌, ◌≤◌, true, false, List, length, Option, None, Some, Result, Ok, Err, Vec}
-use Rattle.std.specs.Io.KnownBytes.{Appends, Consumes, Keeps, IsAtEnd}
-use Rattle.std.specs.declared.alloc.Global.{Global}
-use Rattle.std.specs.declared.string.String.{String}
-use Rattle.dem_outside.specs.Faults.{Rose}
-use Rattle.dem_outside.specs.Known.{AppendsFront}
-use Rattle.dem_model.specs.SceneValue.{SceneValue}
-use Rattle.dem_model.specs.Plain.{last_of}
-use Rattle.dem_model.specs.Output.{output_of}
+-- A job, and what is true of the bytes that it was given.
+use Rattle.std.specs.Prelude.{ℕ, ◌+◌, List, Option, None, Some, ⊤}
+use Rattle.std.specs.Io.KnownBytes.{IsAtEnd}
+use Rattle.dem_words.specs.Orders.{OrderValue}
+use Rattle.dem_words.specs.declared.order.Mode.{Mode}
+use Rattle.dem_words.specs.declared.order.Mode.TheVariants as modes
 use Rattle.dem_model.specs.declared.limits.TheConstants.{MAX_TEXT}
-use Rattle.dem_model.specs.declared.state.Last.{Last}
-use Rattle.dem_top.specs.declared.reading.ReadFault.{ReadFault}
-use Rattle.dem_top.specs.declared.reading.ReadFault.TheVariants as reading
-use Rattle.dem_top.specs.declared.job.Stop.{Stop}
-use Rattle.dem_top.specs.declared.job.Stop.TheVariants as stops
-use Rattle.dem_top.specs.Verdicts.{asks_plain, Refused, Runs, verdict_of, out_text}
+use Rattle.dem_outside.specs.Change.{Change, IsKept, LosesAtMost}
+use Rattle.dem_top.specs.Verdicts.{Verdict, Refused, usage_text, plain_verdict}
 
--- ---- the source
+-- what is asked for
+pub record Job : Type 0 where
+  -- the longest input that it takes, in bytes, where it reads one at all
+  pub limit : Option ℕ
+  -- what each input comes to
+  pub verdict : List ℕ → Verdict
 
--- this holds of the bytes that are left, or of some bytes where the source doesn't tell them
-abbrev pub ForLeft : Option (List ℕ) → (List ℕ → Type 0) → Type 0
-ForLeft (Some bytes) P = P bytes
-ForLeft None P = (bytes : List ℕ) × P bytes
+-- the run of a scene
+abbrev pub plain_job : Job
+plain_job = record { limit = Some MAX_TEXT; verdict = plain_verdict }
 
--- the source was read to its end, or one byte past the greatest length of a scene text; or a read failed
-abbrev pub ReadsAll : (left rest : Option (List ℕ)) → (faults faults_now : ℕ) → Result (Vec ℕ Global) ReadFault → Type 0
-ReadsAll left rest faults faults_now (Ok bytes) =
-    Consumes left rest bytes.items × (length bytes.items ≤ MAX_TEXT → IsAtEnd rest) × (length bytes.items ≤ MAX_TEXT + 1) × (faults_now ≡ faults)
-ReadsAll left rest faults faults_now (Err reading.Failed) = Rose faults faults_now
-ReadsAll left rest faults faults_now (Err reading.OutOfMemory) = faults_now ≡ faults
+-- a faulty command line: nothing is read
+abbrev pub usage_job : Job
+usage_job = record { limit = None; verdict = λ _. Refused 1 usage_text }
 
--- ---- the job
+-- what an order of this mode asks for; a mode that isn't built is a faulty command line
+abbrev pub job_in : Mode → OrderValue → Job
+job_in modes.Plain o = plain_job
+job_in modes.Sched o = usage_job
+job_in modes.Run o = usage_job
+job_in modes.Check o = usage_job
+job_in modes.Gen o = usage_job
+job_in modes.Resume o = usage_job
+job_in modes.Look o = usage_job
+job_in modes.Pack o = usage_job
 
--- these bytes are those of a scene, its whole output was written, and so its run ends
-pub record WritesScene (words : List (String Global)) (held now : Option (List ℕ)) (last : Last) (bytes : List ℕ) : Type 0 where
-  pub scene : SceneValue
-  pub deserved : verdict_of words bytes ≡ Runs scene
-  pub written : Appends held now (output_of scene)
-  pub last_is : last ≡ last_of scene
+-- what an order asks for
+abbrev pub job_of : OrderValue → Job
+job_of o = job_in o.mode o
 
--- a prefix was written of what these words and bytes deserve
-abbrev pub WritesFront : List (String Global) → (held now : Option (List ℕ)) → List ℕ → Type 0
-WritesFront words held now bytes = AppendsFront held now (out_text (verdict_of words bytes))
+-- what words ask for that mean this: words that mean no order are a faulty command line
+abbrev pub job_meant : Option OrderValue → Job
+job_meant None = usage_job
+job_meant (Some o) = job_of o
 
--- what a job does, by its answer
-abbrev pub Does : List (String Global) → (left rest : Option (List ℕ)) → (reads reads_now : ℕ) → (held now : Option (List ℕ)) → (puts puts_now : ℕ) → Result Last Stop → Type 0
-Does words left rest reads reads_now held now puts puts_now (Ok last) =
-    ForLeft left (WritesScene words held now last) × IsAtEnd rest × (reads_now ≡ reads) × (puts_now ≡ puts)
-Does words left rest reads reads_now held now puts puts_now (Err stops.Usage) =
-    (asks_plain words ≡ false) × Keeps held now × (reads_now ≡ reads) × (puts_now ≡ puts)
-Does words left rest reads reads_now held now puts puts_now (Err (stops.Refused fault)) =
-    ForLeft left (λ bytes. verdict_of words bytes ≡ Refused fault) × Keeps held now × (reads_now ≡ reads) × (puts_now ≡ puts)
-Does words left rest reads reads_now held now puts puts_now (Err stops.ReadFailed) =
-    (asks_plain words ≡ true) × Rose reads reads_now × Keeps held now × (puts_now ≡ puts)
-Does words left rest reads reads_now held now puts puts_now (Err stops.WriteFailed) =
-    (asks_plain words ≡ true) × ForLeft left (WritesFront words held now) × (reads_now ≡ reads) × Rose puts puts_now
-Does words left rest reads reads_now held now puts puts_now (Err stops.OutOfMemory) =
-    (asks_plain words ≡ true) × ForLeft left (WritesFront words held now) × (reads_now ≡ reads) × (puts_now ≡ puts)
+-- ---- what a job takes from the source
+
+-- at most one byte past its longest input, from the beginning of what was left
+abbrev pub Takes : Option ℕ → Change → Type 0
+Takes None source = IsKept source
+Takes (Some limit) source = LosesAtMost (limit + 1) source
+
+-- nothing is left, where it reads an input
+abbrev pub ReadsWhole : Option ℕ → Change → Type 0
+ReadsWhole None source = ⊤
+ReadsWhole (Some limit) source = IsAtEnd source.after.bytes
+
+-- ---- what is true of an input
+
+-- this holds of told bytes, or of some bytes where they aren't told
+abbrev pub ForTold : Option (List ℕ) → (List ℕ → Type 0) → Type 0
+ForTold (Some bytes) P = P bytes
+ForTold None P = (bytes : List ℕ) × P bytes
+
+-- this holds of the bytes that were left, or of some bytes where the source doesn't tell them
+abbrev pub ForLeft : Change → (List ℕ → Type 0) → Type 0
+ForLeft source P = ForTold source.before.bytes P
+
+-- this holds of told bytes, or of all bytes where they aren't told
+abbrev pub ForAllTold : Option (List ℕ) → (List ℕ → Type 0) → Type 0
+ForAllTold (Some bytes) P = P bytes
+ForAllTold None P = (bytes : List ℕ) → P bytes
+
+-- this holds of whatever bytes may have been left
+abbrev pub ForAnyLeft : Change → (List ℕ → Type 0) → Type 0
+ForAnyLeft source P = ForAllTold source.before.bytes P

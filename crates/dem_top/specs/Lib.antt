@@ -1,4 +1,6 @@
 pub mod Verdicts
-pub mod Stops
 pub mod Jobs
 pub mod Answers
+pub mod Refusals
+pub mod Parts
+pub mod Streams

@@ -1,18 +1,21 @@
 //! The top call: the words of a command line, a source and two sinks, and the status.
 //!
-//! `main_call` is the whole program over any source and sinks: it reads the words, reads the scene, makes the plain run and
-//! writes its output. Means: `Output` of dem_model, and `Verdicts` here. Callers rest on: at status 0 or 3 `out` gained
-//! exactly the output of the scene that the source held, and each other status has its cause and its line on `note`.
-//! Takes memory: `main_call`. Not here: the streams of the process (dem).
+//! `quiet_call` does what an order asks for, over any source and sinks; `main_call` reads the words and does the same;
+//! `stream_call` is `main_call` over std's streams. Means: `Verdicts` and `Jobs`, what each input of a job comes to.
+//! Callers rest on `Answers` and `Serves`: a status that an input comes to comes with its whole text and nothing else, each
+//! other status with its cause, and with prefixes. Takes memory: all three. Not here: the words (dem_words), the runs (dem_output).
 #![tactic(auto)]
 
-mod answer;
-mod command;
-mod job;
+mod outcome;
+mod plain;
 mod reading;
+mod refusal;
+mod status;
+mod streams;
 mod top;
 
-pub use top::main_call;
+pub use streams::{Served, Writers, stream_call};
+pub use top::{main_call, quiet_call};
 
 #[cfg(test)]
 mod tests;

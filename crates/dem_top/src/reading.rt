@@ -1,10 +1,14 @@
-//! Reading the source to its end, or past what a scene text may have.
-ghost use Rattle.dem_top.specs.Jobs.{ReadsAll};
+//! Reading the source to its end, or past the longest input, and the scene that it has.
+ghost use Rattle.std.specs.Prelude.{◌≡◌, ◌+◌, ◌<◌, ◌^◌};
+ghost use Rattle.dem_outside.specs.Change.{change, LosesAtMost};
+ghost use Rattle.dem_model.specs.declared.limits.TheConstants as limits;
+ghost use Rattle.dem_top.specs.Parts.{ReadsAll, ReadsScene};
 ghost use Rattle.dem_top.specs.declared.reading.ReadFault.TheVariants as faults;
-ghost use Rattle.std.specs.Prelude.{◌≡◌};
 
-use dem_model::MAX_TEXT;
+use crate::outcome::NotDone;
+use dem_model::{MAX_TEXT, Scene};
 use dem_outside::{Failed, Source};
+use dem_scene::read_scene;
 use std::alloc::{AllocError, Global};
 
 /// Why the source wasn't read.
@@ -33,14 +37,20 @@ impl From<AllocError> for ReadFault {
 /// The most bytes of one read.
 const PIECE: usize = 4096;
 
-/// Reads the source to its end, or to one byte past the greatest length of a scene text.
-pub(crate) fn read_all<S: Source>(alloc: Global, source: &mut S) -> Result<Vec<u8>, ReadFault>
-    ensures { ReadsAll (S.left source.old) (S.left source.new) (S.faults source.old) (S.faults source.new) result }
+/// Reads the source to its end, or to one byte past the longest input of this length.
+pub(crate) fn read_all<S: Source>(
+    alloc: Global,
+    source: &mut S,
+    limit: usize,
+) -> Result<Vec<u8>, ReadFault>
+    requires { limit < 2 ^ 32 }
+    ensures read { ReadsAll limit (change S.left S.faults source.old source.new) result }
+    ensures taken { LosesAtMost (limit + 1) (change S.left S.faults source.old source.new) }
 {
     let mut bytes = Vec::new(alloc);
     let mut buf = [0u8; PIECE];
-    while bytes.len() <= MAX_TEXT {
-        let piece = &mut buf[..PIECE.min(MAX_TEXT + 1 - bytes.len())];
+    while bytes.len() <= limit {
+        let piece = &mut buf[..PIECE.min(limit + 1 - bytes.len())];
         let count = source.read(piece)?;
         if count == 0 {
             return Ok(bytes);
@@ -48,4 +58,13 @@ pub(crate) fn read_all<S: Source>(alloc: Global, source: &mut S) -> Result<Vec<u
         bytes.extend_from_slice(&piece[..count])?;
     }
     Ok(bytes)
+}
+
+/// The scene whose text the source has.
+pub(crate) fn read_one_scene<S: Source>(alloc: Global, source: &mut S) -> Result<Scene, NotDone>
+    ensures read { ReadsScene (change S.left S.faults source.old source.new) result }
+    ensures taken { LosesAtMost (limits.MAX_TEXT + 1) (change S.left S.faults source.old source.new) }
+{
+    let bytes = read_all(alloc, source, MAX_TEXT)?;
+    Ok(read_scene(alloc, bytes.as_slice())?)
 }

@@ -1,7 +1,7 @@
 //! Whole calls over memory: the texts that a user sees, and reads and puts that fail.
 ghost use Rattle.std.specs.Prelude.{◌<◌};
 
-use crate::main_call;
+use crate::{main_call, stream_call};
 use dem_model::{List, OutOfMemory};
 use dem_outside::{Fail, MemSink, MemSource};
 use std::alloc::Global;
@@ -103,6 +103,7 @@ fn refuses_other_words(rt: HostRuntime) -> Result<(), TestFail> {
         ["dem"].as_slice(),
         ["dem", "plain", "more"].as_slice(),
         ["dem", "fly"].as_slice(),
+        ["dem", "plain", "--drift", "1025"].as_slice(),
     ] {
         let left = call(rt.alloc(), words, calm(STILL))?;
         assert_eq!(rt; left.status, 1);
@@ -143,5 +144,25 @@ fn ends_at_a_put_that_fails(rt: HostRuntime) -> Result<(), TestFail> {
     let left = call(rt.alloc(), &["dem"], outside)?;
     assert_eq!(rt; left.status, 5);
     assert_eq!(rt; left.note.held(), b"usage:".as_slice());
+    Ok(())
+}
+
+#[test]
+fn passes_on_what_it_buffered(rt: HostRuntime) -> Result<(), TestFail> {
+    let alloc = rt.alloc();
+    let mut words = Vec::new(alloc);
+    words.push(String::from_str(alloc, "dem")?)?;
+    words.push(String::from_str(alloc, "plain")?)?;
+    let mut output = [0; 128];
+    let mut errors = [0; 128];
+    let served = stream_call(
+        alloc,
+        words.as_slice(),
+        STILL,
+        output.as_mut_slice(),
+        errors.as_mut_slice(),
+    );
+    assert_eq!(rt; served.status, 0);
+    assert!(rt; output.starts_with(STILL_OUT));
     Ok(())
 }

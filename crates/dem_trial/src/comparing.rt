@@ -7,9 +7,8 @@ use dem_model::{Body, Held, State};
 use dem_step::Dyn;
 
 /// Whether a run has the number, the bodies and the displacements of a state.
-pub fn is_at(run: &Dyn, state: &State, clumps: u32) -> bool
-    requires { clumps ≡ length run.now.scene.clumps }
-{
+pub fn is_at(run: &Dyn, state: &State) -> bool {
+    let clumps = run.shapes().scene().clumps.len() as u32;
     run.now() == state.step
         && state.bodies.len() == clumps as usize
         && has_bodies(run, state.bodies.as_slice(), clumps)

@@ -1,51 +1,43 @@
 //! The lists of a trial: how one is made, and how it is taken into use.
 
-ghost use Rattle.std.specs.Prelude.{◌≡◌, ◌+◌, ◌≤◌, IfOk};
-ghost use Rattle.dem_step.specs.Stepper.{IsNearList};
+ghost use Rattle.std.specs.Prelude.{◌≡◌, IfOk};
+ghost use Rattle.dem_step.specs.Stepper.{IsListOfRun};
 
 use crate::report::Report;
 use dem_list::PairList;
 use dem_margin::build_all;
 use dem_model::OutOfMemory;
-use dem_shape::{Shapes, Snapshot};
+use dem_shape::Snapshot;
 use dem_step::Dyn;
 use std::alloc::Global;
 
 /// The list of the near pairs of a run's state.
-pub fn near_list(
-    alloc: Global,
-    shapes: &Shapes,
-    run: &Dyn,
-    drift: u32,
-) -> Result<PairList, OutOfMemory>
-    requires scene { run.now.scene ≡ shapes.now }
-    requires small { drift ≤ 1024 }
-    ensures { IfOk result (λ list. IsNearList shapes.now drift list) }
+pub fn near_list(alloc: Global, run: &Dyn) -> Result<PairList, OutOfMemory>
+    ensures { IfOk result (IsListOfRun run.now.scene run.now.drift) }
 {
-    let clumps = shapes.scene().clumps.len() as u32;
-    let mut snap = Snapshot::new(alloc, clumps)?;
-    let _now = run.now();
+    let shapes = run.shapes();
+    let mut snap = Snapshot::new(alloc, shapes.scene().clumps.len() as u32)?;
     run.snapshot_into(&mut snap);
-    match build_all(alloc, shapes, &snap, drift, PairList::empty(alloc)) {
-        Ok(list) => Ok(list),
+    match build_all(alloc, shapes, &snap, run.drift(), PairList::empty(alloc)) {
+        Ok(list) => {
+            run.list_of_run(&snap, &list);
+            Ok(list)
+        }
         Err((_, fault)) => Err(fault),
     }
 }
 
-/// Takes a list into use, if it isn't too old, and notes its age.
+/// Takes a list into use, if it is in time, and notes its age.
 pub fn take(run: &mut Dyn, list: PairList, report: &mut Report) -> Result<(), OutOfMemory>
-    requires near { IsNearList run.old.scene run.old.drift list }
-    requires drift { run.old.drift ≡ report.old.drift }
+    requires { IsListOfRun run.old.scene run.old.drift list }
     ensures scene { run.new.scene ≡ run.old.scene }
     ensures drift { run.new.drift ≡ run.old.drift }
-    ensures report { report.new.drift ≡ report.old.drift }
 {
-    let from = list.from();
-    if from > run.now() || run.now() - from > report.drift {
+    if !run.can_adopt(&list) {
         report.same = false;
         return Ok(());
     }
-    report.note_list(run.now() - from, list.len());
+    report.note_list(run.now().saturating_sub(list.from()), list.len());
     match run.adopt(list) {
         Ok(_) => Ok(()),
         Err((_, fault)) => Err(fault),

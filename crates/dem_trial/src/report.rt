@@ -1,7 +1,5 @@
 //! What a trial came to, and its row.
 
-ghost use Rattle.std.specs.Prelude.{◌≡◌};
-
 use std::fmt::{self, Display, Formatter};
 
 /// List number n is wanted at the age of so many times n, modulo the drift limit and one.
@@ -34,9 +32,7 @@ pub struct Report {
 
 impl Report {
     /// The report at the start of a trial.
-    pub fn new(drift: u32) -> Report
-        ensures { result.drift ≡ drift }
-    {
+    pub fn new(drift: u32) -> Report {
         Report {
             drift,
             first_pairs: 0,
@@ -58,9 +54,7 @@ impl Report {
     }
 
     /// Notes a list of so many pairs that was taken into use at this age.
-    pub fn note_list(&mut self, age: u32, pairs: u32)
-        ensures { self.new.drift ≡ self.old.drift }
-    {
+    pub fn note_list(&mut self, age: u32, pairs: u32) {
         if self.lists == 0 {
             self.first_pairs = pairs;
         }
@@ -69,9 +63,7 @@ impl Report {
     }
 
     /// Notes a step, the age of its list, and how many displacements were compared after it.
-    pub fn note_step(&mut self, age: u32, displacements: u64)
-        ensures { self.new.drift ≡ self.old.drift }
-    {
+    pub fn note_step(&mut self, age: u32, displacements: u64) {
         self.steps = self.steps.saturating_add(1);
         self.stepped_at = self.stepped_at.max(age);
         self.displacements = self.displacements.saturating_add(displacements);

@@ -1,33 +1,28 @@
 //! One step of a run on lists and of the plain run, compared.
 
-ghost use Rattle.std.specs.Prelude.{◌≡◌, ◌+◌, ◌<◌, ◌≤◌, true};
-ghost use Rattle.std.specs.Option.{IsSomeAnd};
+ghost use Rattle.std.specs.Prelude.{◌≡◌, ◌<◌, true};
+ghost use Rattle.dem_step.specs.Stepper.{CanStep};
 
 use crate::comparing::is_at;
 use crate::report::Report;
 use dem_model::{End, OutOfMemory, Steps};
 use dem_plain::{PlainRun, Stop};
-use dem_shape::Shapes;
 use dem_step::Dyn;
 use std::sync::ledger::Ledger;
 
 /// Makes one step of both runs, if both may make one, and notes what it came to.
 pub fn advance<L: Ledger>(
-    shapes: &Shapes,
     plain: &mut PlainRun,
     run: &mut Dyn,
     tests: &mut Steps<L>,
     report: &mut Report,
 ) -> Result<(), OutOfMemory>
-    requires plain { plain.old.scene ≡ shapes.now }
-    requires scene { run.old.scene ≡ shapes.now }
-    requires drift { run.old.drift ≡ report.old.drift }
-    ensures plain { plain.new.scene ≡ shapes.now }
-    ensures scene { run.new.scene ≡ shapes.now }
+    requires { plain.old.scene ≡ run.old.scene }
+    ensures plain { plain.new.scene ≡ plain.old.scene }
+    ensures scene { run.new.scene ≡ run.old.scene }
     ensures drift { run.new.drift ≡ run.old.drift }
-    ensures report { report.new.drift ≡ report.old.drift }
 {
-    if report.is_over() || !may_step(shapes, plain, run, report.drift) {
+    if report.is_over() || !may_step(plain, run) {
         return Ok(());
     }
     let age = age_in_use(run);
@@ -39,7 +34,7 @@ pub fn advance<L: Ledger>(
         return Ok(());
     }
     report.note_step(age, plain.state().held.len() as u64);
-    report.same = is_at(run, plain.state(), shapes.scene().clumps.len() as u32);
+    report.same = is_at(run, plain.state());
     Ok(())
 }
 
@@ -55,23 +50,13 @@ fn plain_step(plain: &mut PlainRun) -> Result<Option<End>, OutOfMemory>
     }
 }
 
-/// Whether both runs may make a step: neither has made all, and the list in use isn't too old.
-fn may_step(shapes: &Shapes, plain: &PlainRun, run: &Dyn, drift: u32) -> bool
-    requires plain { plain.now.scene ≡ shapes.now }
-    requires scene { run.now.scene ≡ shapes.now }
-    requires drift { run.now.drift ≡ drift }
+/// Whether both runs may make a step.
+fn may_step(plain: &PlainRun, run: &Dyn) -> bool
+    requires { plain.now.scene ≡ run.now.scene }
     ensures plain { result ≡ true → plain.now.state.step < plain.now.scene.steps }
-    ensures goes_on { result ≡ true → run.now.state.step < run.now.scene.steps }
-    ensures listed { result ≡ true → IsSomeAnd run.now.from (λ from. run.now.state.step ≤ from + run.now.drift) }
+    ensures run { result ≡ true → CanStep run.now }
 {
-    let steps = shapes.scene().steps;
-    let now = run.now();
-    match run.list_from() {
-        Some(from) => {
-            plain.state().step < steps && now < steps && now.saturating_sub(from) <= drift
-        }
-        None => false,
-    }
+    run.can_step() && plain.state().step < run.shapes().scene().steps
 }
 
 /// The age of the list in use.

@@ -1,6 +1,7 @@
 //! One trial: a run on lists beside the plain run of a scene.
 
 ghost use Rattle.std.specs.Prelude.{◌≡◌, ◌<◌, ◌≤◌};
+ghost use Rattle.dem_model.specs.declared.limits.TheConstants.{MAX_DRIFT};
 
 use crate::listing::{near_list, take};
 use crate::report::Report;
@@ -15,36 +16,32 @@ use std::sync::ledger::{Blank, Ledger};
 
 /// Tries a scene with a drift limit.
 pub fn trial(alloc: Global, scene: &Scene, drift: u32) -> Result<Report, OutOfMemory>
-    requires { drift ≤ 1024 }
+    requires { drift ≤ MAX_DRIFT }
 {
     let shapes = Shapes::new(alloc, scene)?;
     let mut plain = PlainRun::new(alloc, scene)?;
     let mut run = Dyn::new(alloc, &shapes, drift)?;
-    side_by_side::<Brand>(alloc, &shapes, &mut plain, &mut run, drift, Blank::new(1))
+    side_by_side::<Brand>(alloc, &mut plain, &mut run, Blank::new(1))
 }
 
 /// Makes all steps of both runs, with their tests counted on a counter that nobody reads.
 fn side_by_side<L: Ledger>(
     alloc: Global,
-    shapes: &Shapes,
     plain: &mut PlainRun,
     run: &mut Dyn,
-    drift: u32,
     blank: Blank,
 ) -> Result<Report, OutOfMemory>
     requires name { blank.name ≡ L.name }
     requires parts { blank.parts ≡ L.parts }
     requires some { 0 < L.parts }
-    requires plain { plain.old.scene ≡ shapes.now }
-    requires scene { run.old.scene ≡ shapes.now }
-    requires drift { run.old.drift ≡ drift }
-    requires small { drift ≤ 1024 }
+    requires scene { plain.old.scene ≡ run.old.scene }
 {
     let mut tests = Steps::<L>::new(blank);
-    let mut report = Report::new(drift);
-    for _ in 0..shapes.scene().steps {
-        one_list(alloc, shapes, plain, run, &mut tests, &mut report)?;
-        if report.is_over() || run.now() >= shapes.scene().steps {
+    let mut report = Report::new(run.drift());
+    let steps = run.shapes().scene().steps;
+    for _ in 0..steps {
+        one_list(alloc, plain, run, &mut tests, &mut report)?;
+        if report.is_over() || run.now() >= steps {
             break;
         }
     }
@@ -55,25 +52,19 @@ fn side_by_side<L: Ledger>(
 /// into use, and makes one step on it.
 fn one_list<L: Ledger>(
     alloc: Global,
-    shapes: &Shapes,
     plain: &mut PlainRun,
     run: &mut Dyn,
     tests: &mut Steps<L>,
     report: &mut Report,
 ) -> Result<(), OutOfMemory>
-    requires plain { plain.old.scene ≡ shapes.now }
-    requires scene { run.old.scene ≡ shapes.now }
-    requires drift { run.old.drift ≡ report.old.drift }
-    requires small { report.old.drift ≤ 1024 }
-    ensures plain { plain.new.scene ≡ shapes.now }
-    ensures scene { run.new.scene ≡ shapes.now }
-    ensures drift { run.new.drift ≡ report.old.drift }
-    ensures report { report.new.drift ≡ report.old.drift }
+    requires { plain.old.scene ≡ run.old.scene }
+    ensures plain { plain.new.scene ≡ plain.old.scene }
+    ensures scene { run.new.scene ≡ run.old.scene }
 {
-    let list = near_list(alloc, shapes, run, report.drift)?;
+    let list = near_list(alloc, run)?;
     for _ in 0..report.wanted_age() {
-        advance(shapes, plain, run, tests, report)?;
+        advance(plain, run, tests, report)?;
     }
     take(run, list, report)?;
-    advance(shapes, plain, run, tests, report)
+    advance(plain, run, tests, report)
 }

@@ -16,6 +16,7 @@ ghost use Rattle.dem_num.specs.Rotations.{
   turn_step_of,
 };
 
+use crate::still::is_zero;
 use dem_num::{Quat, Vec3, add, mul, narrow, negated, quat_norm2, reciprocal, root, sub};
 
 /// The quaternion after one step with a spin in body axes, in radians times 2^30. A spin of zero keeps it.
@@ -27,11 +28,7 @@ pub fn turn_step(q: Quat, w: Vec3) -> Quat
     ensures without_spin { is_zero (widened w) ≡ true → result ≡ q }
     ensures orientation { IsOrientation result }
 {
-    if w.x == 0 && w.y == 0 && w.z == 0 {
-        q
-    } else {
-        unit(stepped(q, w))
-    }
+    if is_zero(w) { q } else { unit(stepped(q, w)) }
 }
 
 /// Where the quaternion points after the step, at another length.

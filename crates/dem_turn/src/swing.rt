@@ -4,6 +4,7 @@ ghost use Rattle.std.specs.Prelude.{◌≡◌, ◌+◌, ◌*◌, ◌^◌, ◌<�
 ghost use Rattle.dem_num.specs.Vectors.{widened, Within};
 ghost use Rattle.dem_num.specs.Rotations.{arm_of, swing_limit_of};
 
+use crate::still::is_zero;
 use dem_num::{Vec3, norm2, root, widen};
 
 /// The arm of a sphere: more than its distance from the clump's position in u, and 0 where it has none.
@@ -13,7 +14,7 @@ pub fn arm(o: Vec3) -> u64
     ensures value { result ≡ arm_of (widened o) }
     ensures size { result ≤ 2 ^ 27 }
 {
-    if o.x == 0 && o.y == 0 && o.z == 0 {
+    if is_zero(o) {
         0
     } else {
         root(norm2(widen(o))) + 1

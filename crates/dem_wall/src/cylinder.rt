@@ -17,9 +17,8 @@ ghost use Rattle.dem_model.specs.Near.{cylinder_near};
 ghost use Rattle.dem_model.specs.Ranges.{IsTouch};
 ghost use Rattle.dem_wall.specs.Inside.{axis_distance_of, inward_normal};
 
-use crate::plane::offset_from;
 use dem_model::{Axis, MAX_OVERLAP, Touch, UNIT};
-use dem_num::{Vec3, Wide3, add, mul, narrow, negated, root, sub, tdiv};
+use dem_num::{Vec3, Wide3, add, mul, narrow, negated, place_difference, root, sub, tdiv};
 
 /// How a sphere inside a cylinder touches it, from its center and its radius.
 #[tactic(auto, unfolding(dem_model::specs::Touch::cylinder_touch))]
@@ -31,7 +30,7 @@ pub fn cylinder_touch(axis: Axis, at: Vec3, radius: u64, c: Vec3, r: u32) -> Opt
     ensures value { result ≡ cylinder_touch axis at radius c r }
     ensures size { IfSome result IsTouch }
 {
-    let offset = offset_from(at, c);
+    let offset = place_difference(c, at);
     let free = radius as u128 - r as u128;
     if free * free < square_distance(axis, offset) {
         Some(inside_touch(axis, offset, radius, r))
@@ -50,7 +49,7 @@ pub fn cylinder_near(axis: Axis, at: Vec3, radius: u64, c: Vec3, r: u32, extra: 
     requires extra_small { extra ≤ 2 ^ 37 }
     ensures { result ≡ cylinder_near axis at radius c r extra }
 {
-    let offset = offset_from(at, c);
+    let offset = place_difference(c, at);
     let free = radius as u128 - r as u128;
     let e = moved_out(first_part(axis, offset), extra);
     let f = moved_out(second_part(axis, offset), extra);

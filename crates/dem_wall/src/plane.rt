@@ -10,7 +10,7 @@ ghost use Rattle.dem_model.specs.Near.{plane_near};
 ghost use Rattle.dem_model.specs.Ranges.{IsTouch};
 
 use dem_model::{MAX_OVERLAP, Touch};
-use dem_num::{Vec3, Wide3, dot, mul, narrow, norm2, root, sh, sub, sub3, tdiv, widen};
+use dem_num::{Vec3, dot, mul, narrow, norm2, place_difference, root, sh, sub, tdiv, widen};
 
 /// What a direction is multiplied by before it is divided by its length: 2^70.
 const FINE: i128 = 1_180_591_620_717_411_303_424;
@@ -89,17 +89,7 @@ pub fn gap(at: Vec3, normal: Vec3, c: Vec3) -> i128
     ensures value { result ≡ shifted (dot_of (widened normal) (difference_of (widened c) (widened at))) 30 }
     ensures size { AtMost result (2 ^ 39) }
 {
-    sh(dot(normal, offset_from(at, c)), 30)
-}
-
-/// From a wall's point to a place.
-pub fn offset_from(at: Vec3, c: Vec3) -> Wide3
-    requires point_small { Within (widened at) (2 ^ 36) }
-    requires center_small { Within (widened c) (2 ^ 36) }
-    ensures value { result ≡ difference_of (widened c) (widened at) }
-    ensures size { Within result (2 ^ 37) }
-{
-    sub3(widen(c), widen(at))
+    sh(dot(normal, place_difference(c, at)), 30)
 }
 
 /// How a sphere touches a plane, from its center and its radius.

@@ -86,3 +86,40 @@ fn pipe_pushes_inward(rt: HostRuntime) {
     assert_eq!(rt; wall_near(&pipe, edge, 1000, 0), false);
     assert_eq!(rt; wall_near(&pipe, edge, 1000, 1), true);
 }
+
+/// A sphere of radius 1000 in a pipe of radius 5000: 4001 from the axis it overlaps by 1, and at 4000 it doesn't touch.
+#[test]
+fn pipe_is_touched_past_the_free_radius(rt: HostRuntime) {
+    let pipe = Wall {
+        form: Form::Cylinder {
+            axis: Axis::Z,
+            at: Vec3 {
+                x: 30000,
+                y: 30000,
+                z: 0,
+            },
+            r: 5000,
+        },
+        mat: 0,
+    };
+    let left = Vec3 {
+        x: -ONE,
+        y: 0,
+        z: 0,
+    };
+    let past = Vec3 {
+        x: 34001,
+        y: 30000,
+        z: 5000,
+    };
+    let at = Vec3 {
+        x: 34000,
+        y: 30000,
+        z: 5000,
+    };
+    assert_eq!(rt;
+        wall_touch(&pipe, past, 1000),
+        Some(Touch { n: left, delta: 1 })
+    );
+    assert_eq!(rt; wall_touch(&pipe, at, 1000), None);
+}

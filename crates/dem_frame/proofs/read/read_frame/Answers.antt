@@ -3,9 +3,9 @@ use Rattle.csv.specs.Reading.{Reached, default_config, strip_bom}
 use Rattle.csv.specs.Records.{fields_of}
 use Rattle.csv.specs.declared.parser.State.TheVariants as st
 use Rattle.csv.proofs.ReadFacts.{rows-more, rows-end}
-use Rattle.dem_frame.specs.declared.front.FrameFault.TheVariants.{Bad, Short}
-use Rattle.dem_frame.specs.Fronts.{with_record, read_on, first_front}
-use Rattle.dem_frame.proofs.FrontFacts.{read_on-more}
+use Rattle.dem_frame.specs.declared.partial.FrameFault.TheVariants.{Bad, Short}
+use Rattle.dem_frame.specs.PartialFrames.{with_record, read_on, nothing_read}
+use Rattle.dem_frame.proofs.PartialFacts.{read_on-more}
 use Rattle.dem_frame.proofs.ReadBackFacts.{reads_back}
 use Rattle.dem_frame.proofs.read.read_frame.Goals as goal
 
@@ -18,7 +18,7 @@ loop-row-init c =
     let start = c.into_iter-row-iterator.ensures.into_iter_gives ∙ refl in
     let rdr = c.into_byte_records-row-items.ensures.rdr in
     let left = c.into_byte_records-row-items.ensures.left in
-    rw (start, rdr, c.new-front.ensures) (
+    rw (start, rdr, c.new-frame.ensures) (
       rw (f, e) at fr.trim ∙ c.new.ensures.trim,
       inr (inr (rw (f, e) at fr.has_headers, fr.headers)),
       left,
@@ -36,7 +36,7 @@ loop-row-preserved c =
     let inv = c.loop-row.invariant in
     let s = rw (c.in-Some.is, c.in-Ok.is) at ((c.next.ensures.steps inv.2 inv.0).0 inv.1) in
     let m = rows-more (λ (s : Bor (List ℕ)). Some s.now) c.loop-row.row-iterator.rdr c.next.new.self.rdr (fields_of c.in-Ok.row) default_config st.StartRecord (strip_bom c.args.bytes.now) inv.4 inv.6 inv.3 inv.5 inv.7 s.0 in
-    let good : with_record c.args.clumps c.loop-row.front (fields_of c.in-Ok.row) ≡ Some c.take.new.self = rw c.in-Ok-true.field-0-test at c.in-Ok-true.ensures in (
+    let good : with_record c.args.clumps c.loop-row.frame (fields_of c.in-Ok.row) ≡ Some c.take.new.self = rw c.in-Ok-true.field-0-test at c.in-Ok-true.ensures in (
       s.0.3 ∙ inv.0,
       inl s.1,
       s.2,
@@ -45,7 +45,7 @@ loop-row-preserved c =
       m.1,
       inv.6 ++ fields_of c.in-Ok.row ∷ [],
       m.2,
-      read_on-more c.args.clumps first_front c.loop-row.front c.take.new.self inv.6 (fields_of c.in-Ok.row) inv.8 good,
+      read_on-more c.args.clumps nothing_read c.loop-row.frame c.take.new.self inv.6 (fields_of c.in-Ok.row) inv.8 good,
       omega (arith, inv.9, length-append inv.6 (fields_of c.in-Ok.row ∷ [])),
     )
 
@@ -54,7 +54,7 @@ returns-in-Ok-false-clause-reads c =
     let inv = c.loop-row.invariant in
     let s = rw (c.in-Some.is, c.in-Ok.is) at ((c.next.ensures.steps inv.2 inv.0).0 inv.1) in
     let m = rows-more (λ (s : Bor (List ℕ)). Some s.now) c.loop-row.row-iterator.rdr c.next.new.self.rdr (fields_of c.in-Ok.row) default_config st.StartRecord (strip_bom c.args.bytes.now) inv.4 inv.6 inv.3 inv.5 inv.7 s.0 in
-    (inv.6, fields_of c.in-Ok.row, c.loop-row.front, (c.next.new.self.rdr.state, m.0, m.2), inv.8, rw c.in-Ok-false.field-0-test at c.in-Ok-false.ensures, omega (arith, inv.9))
+    (inv.6, fields_of c.in-Ok.row, c.loop-row.frame, (c.next.new.self.rdr.state, m.0, m.2), inv.8, rw c.in-Ok-false.field-0-test at c.in-Ok-false.ensures, omega (arith, inv.9))
 
 pub returns-in-Ok-false-clause-back : goal.returns-in-Ok-false-clause-back
 returns-in-Ok-false-clause-back c = reads_back c.args.clumps c.args.bytes.now (Err (Bad c.in-Some-checked_add.number)) (returns-in-Ok-false-clause-reads c)
@@ -65,7 +65,7 @@ returns-in-Some-finish-clause-back c =
     let s = rw c.in-None.is at ((c.next.ensures.steps inv.2 inv.0).0 inv.1) in
     let ends = rows-end (λ (s : Bor (List ℕ)). Some s.now) c.loop-row.row-iterator.rdr c.next.new.self.rdr [] default_config inv.4 inv.3 inv.5 s in
     reads_back c.args.clumps c.args.bytes.now (Ok c.in-Some-finish.state)
-    (inv.6, (c.loop-row.row-iterator.rdr.state, inv.4, inv.7, ends), c.loop-row.front, inv.8, sym c.finish.ensures ∙ c.in-Some-finish.is)
+    (inv.6, (c.loop-row.row-iterator.rdr.state, inv.4, inv.7, ends), c.loop-row.frame, inv.8, sym c.finish.ensures ∙ c.in-Some-finish.is)
 
 pub returns-in-None-finish-clause-back : goal.returns-in-None-finish-clause-back
 returns-in-None-finish-clause-back c =
@@ -73,4 +73,4 @@ returns-in-None-finish-clause-back c =
     let s = rw c.in-None.is at ((c.next.ensures.steps inv.2 inv.0).0 inv.1) in
     let ends = rows-end (λ (s : Bor (List ℕ)). Some s.now) c.loop-row.row-iterator.rdr c.next.new.self.rdr [] default_config inv.4 inv.3 inv.5 s in
     reads_back c.args.clumps c.args.bytes.now (Err (Short c.loop-row.rows))
-    (inv.6, (c.loop-row.row-iterator.rdr.state, inv.4, inv.7, ends), c.loop-row.front, inv.8, sym c.finish.ensures ∙ c.in-None-finish.is, inv.9)
+    (inv.6, (c.loop-row.row-iterator.rdr.state, inv.4, inv.7, ends), c.loop-row.frame, inv.8, sym c.finish.ensures ∙ c.in-None-finish.is, inv.9)

@@ -9,7 +9,7 @@ use Rattle.dem_hist.proofs.carry.fill.Goals as goal
 
 pub loop-j-preserved : goal.loop-j-preserved
 loop-j-preserved c = record {
-  filled = c.in_ok-pushed.ensures ∙ carried-more _ _ _ _ _ _ _ c.loop-j.invariant.filled c.get-pair.ensures c.entry_of-entry.ensures;
+  filled = c.in_ok-pushed.ensures ∙ carried-more _ _ _ _ _ _ _ c.loop-j.invariant.filled c.get-pair.ensures c.entry_for-entry.ensures;
   within = c.reached-at.ensures.within;
   before = λ m d le lt.
       let is : get_or c.args.new.now.pairs c.loop-j.j d ≡ c.get-pair.result = get_or_from_slice_get c.args.new.now.pairs c.loop-j.j c.get-pair.result d c.get-pair.ensures in

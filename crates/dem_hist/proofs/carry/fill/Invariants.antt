@@ -2,7 +2,7 @@ use Rattle.std.proofs.Common.{◌≡◌, ℕ, ◌<◌, ◌≤◌, length, map, t
 use Rattle.dem_model.specs.declared.state.Pair.{Pair}
 use Rattle.dem_model.specs.Step.{held_at}
 use Rattle.dem_model.specs.Carry.{kept_of}
-use Rattle.dem_hist.specs.Carrying.{AllBefore}
+use Rattle.dem_hist.specs.Inside.{AllBefore}
 use Rattle.dem_hist.proofs.carry.fill.Given as goal
 
 abbrev pub invariant-loop-j : goal.invariant-loop-j

@@ -1,5 +1,5 @@
 use Rattle.std.proofs.Common.{◌≤◌, ◌-◌, length}
-use Rattle.dem_hist.specs.Carrying.{AllBefore}
+use Rattle.dem_hist.specs.Inside.{AllBefore}
 use Rattle.dem_hist.proofs.carry.reached.Given as goal
 
 abbrev pub invariant-loop-at : goal.invariant-loop-at

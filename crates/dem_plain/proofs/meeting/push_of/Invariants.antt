@@ -1,4 +1,4 @@
 use Rattle.dem_plain.proofs.meeting.push_of.Given as goal
 
-abbrev pub ghosts-touched : goal.ghosts-touched
-ghosts-touched a = record { name = a.blank.name; parts = a.blank.parts }
+abbrev pub ghosts-counted : goal.ghosts-counted
+ghosts-counted a = record { name = a.blank.name; parts = a.blank.parts }

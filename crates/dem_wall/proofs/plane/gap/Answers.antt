@@ -7,6 +7,6 @@ use Rattle.dem_wall.proofs.plane.gap.Goals as goal
 
 pub returns-clause-size : goal.returns-clause-size
 returns-clause-size c =
-    let most : unsigned_abs (dot_of (widened c.args.normal) c.offset_from.result) ≤ 3 * (2 ^ 30 * 2 ^ 37) =
-    dot_le (widened c.args.normal) c.offset_from.result (2 ^ 30) (2 ^ 37) c.requires.normal_small c.offset_from.ensures.size in
+    let most : unsigned_abs (dot_of (widened c.args.normal) c.place_difference.result) ≤ 3 * (2 ^ 30 * 2 ^ 37) =
+    dot_le (widened c.args.normal) c.place_difference.result (2 ^ 30) (2 ^ 37) c.requires.normal_small c.place_difference.ensures.size in
     grind (arith, to_z-of_z, shifted_le c.dot.result 30 (2 ^ 39))

@@ -1,12 +1,12 @@
 use Rattle.std.proofs.Common.{◌≡◌, Some, sym, ◌∙◌, rules, arith}
 use Rattle.std.proofs.lemmas.Grind.{common_steps}
-use Rattle.dem_outside.specs.Puts.{failure_of}
-use Rattle.dem_outside.proofs.Fronts.{AppendsFront-take}
+use Rattle.dem_outside.specs.MemSinkValue.{failure_of}
+use Rattle.dem_outside.proofs.Prefixes.{AppendsPrefix-take}
 use Rattle.dem_outside.proofs.PutFacts.{is_told}
 use Rattle.dem_outside.proofs.mem_sink.MemSinkSink.put.Goals as goal
 
 pub returns-in-Some-clause-appended : goal.returns-in-Some-clause-appended
-returns-in-Some-clause-appended c = AppendsFront-take _ _ c.args.piece.now c.min-count.result (grind (arith, common_steps))
+returns-in-Some-clause-appended c = AppendsPrefix-take _ _ c.args.piece.now c.min-count.result (grind (arith, common_steps))
 
 pub returns-in-Some-clause-taken : goal.returns-in-Some-clause-taken
 returns-in-Some-clause-taken c =

@@ -7,8 +7,8 @@ use Rattle.dem_plain.proofs.plain_run.PlainRun.new.Goals as goal
 
 pub invariant_of-result : goal.invariant_of-result
 invariant_of-result c =
-    run_first c.args.scene.now c.in_ok-shapes.shapes c.in_ok-centers.centers c.in_ok-first_bodies.field-0 c.new-3.result
-    c.in_ok-shapes.ensures c.scene-scene.ensures.sound c.in_ok-centers.ensures c.in_ok-first_bodies.ensures c.new-3.ensures
+    run_first c.args.scene.now c.in_ok-shapes.shapes c.in_ok-spheres.spheres c.in_ok-first_bodies.field-0 c.new-3.result
+    c.in_ok-shapes.ensures c.scene-scene.ensures.sound c.in_ok-spheres.ensures c.in_ok-first_bodies.ensures c.new-3.ensures
 
 pub returns : goal.returns
 returns c =

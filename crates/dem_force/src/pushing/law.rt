@@ -1,0 +1,83 @@
+//! One contact: from the two sides and how they touch to the force, the torques and the new displacement.
+
+ghost use Rattle.std.specs.Prelude.{◌≡◌, ◌^◌, ◌≤◌};
+ghost use Rattle.dem_num.specs.Vectors.{widened, Within};
+ghost use Rattle.dem_model.specs.Law.{push_with, pushed_of, contact_of};
+ghost use Rattle.dem_model.specs.declared.limits.TheConstants.{MAX_DISPLACEMENT};
+ghost use Rattle.dem_model.specs.Ranges.{IsLaw, IsBounded, IsFirst, IsSecond, IsTouch, IsSmall};
+
+use crate::pushing::mixing::{effective_mass, effective_radius};
+use crate::pushing::motion::{contact_radius, motion_between};
+use crate::pushing::normal::normal_force;
+use crate::pushing::push::{force_on_first, torque_on_first, torque_on_second};
+use crate::pushing::sliding::{carried, friction_bound, gripped, trial};
+use dem_model::{Law, Push, Side, Touch};
+use dem_num::{Vec3, Wide3};
+
+/// What a contact does: the force on `a` (`b` feels the opposite), the torques on both in world axes, and the new
+/// displacement. `a` is the side that the normal pushes along it; `h0` is the stored displacement, zero where none is.
+#[tactic(auto, unfolding(dem_model::specs::Law::contact_of))]
+pub fn contact(law: &Law, a: &Side, b: &Side, t: Touch, h0: Vec3) -> Push
+    requires law { IsLaw law.now }
+    requires first { IsFirst a.now }
+    requires second { IsSecond b.now }
+    requires touch { IsTouch t }
+    requires stored { Within (widened h0) MAX_DISPLACEMENT }
+    ensures value { result ≡ contact_of law.now a.now b.now t h0 }
+    ensures size { IsSmall result }
+{
+    pushed(law, a, b, t.n, t.delta as u64, h0)
+}
+
+/// What a contact does, from the overlap as a number without sign.
+#[tactic(auto, unfolding(dem_model::specs::Law::pushed_of))]
+fn pushed(law: &Law, a: &Side, b: &Side, n: Vec3, delta: u64, h0: Vec3) -> Push
+    requires law { IsLaw law.now }
+    requires first { IsFirst a.now }
+    requires second { IsBounded b.now }
+    requires normal { Within (widened n) (2 ^ 30) }
+    requires overlap { delta ≤ 2 ^ 27 }
+    requires stored { Within (widened h0) MAX_DISPLACEMENT }
+    ensures value { result ≡ pushed_of law.now a.now b.now n delta h0 }
+    ensures size { IsSmall result }
+{
+    let c = contact_radius(effective_radius(a, b), delta);
+    let mass = effective_mass(a, b);
+    let motion = motion_between(a, b, n, delta);
+    let h = carried(n, motion.slip, h0);
+    let normal = normal_force(law, c, delta, mass, motion.speed);
+    let trial = trial(law, c, mass, h, motion.slip);
+    push_at(law, a, b, n, delta, normal, h, trial)
+}
+
+/// What a contact does, once the normal force, the displacement and the trial of the tangential force are known.
+#[tactic(auto, unfolding(dem_model::specs::Law::push_with))]
+fn push_at(
+    law: &Law,
+    a: &Side,
+    b: &Side,
+    n: Vec3,
+    delta: u64,
+    normal: u64,
+    h: Vec3,
+    trial: Wide3,
+) -> Push
+    requires law { IsLaw law.now }
+    requires first { IsBounded a.now }
+    requires second { IsBounded b.now }
+    requires direction { Within (widened n) (2 ^ 30) }
+    requires normal_small { normal ≤ 2 ^ 62 }
+    requires held { Within (widened h) MAX_DISPLACEMENT }
+    requires trial_small { Within trial (2 ^ 62) }
+    ensures value { result ≡ push_with law.now a.now b.now n delta normal h trial }
+    ensures size { IsSmall result }
+{
+    let grip = gripped(law.kt, friction_bound(law.mu, normal), trial, h);
+    let force = force_on_first(n, normal, grip.friction);
+    Push {
+        force,
+        torque_a: torque_on_first(a, n, delta, force, grip.friction),
+        torque_b: torque_on_second(b, n, delta, force, grip.friction),
+        h: grip.h,
+    }
+}

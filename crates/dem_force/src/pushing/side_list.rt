@@ -1,0 +1,99 @@
+//! The sides of all spheres in a state, made once for all contacts of a step.
+
+ghost use Rattle.std.specs.Prelude.{◌≡◌, ◌<◌, ◌≤◌, ◌^◌, length, IfOk, slice_index_or};
+ghost use Rattle.dem_num.specs.Vectors.{widened, Within};
+ghost use Rattle.dem_model.specs.Motion.{AreSound, IsPair};
+ghost use Rattle.dem_model.specs.Pairs.{sphere_count};
+ghost use Rattle.dem_model.specs.declared.limits.TheConstants.{MAX_DISPLACEMENT};
+ghost use Rattle.dem_model.specs.Ranges.{IsTouch, IsSmall, wall_side_of};
+ghost use Rattle.dem_model.specs.Step.{push_of};
+ghost use Rattle.dem_force.specs.Sides.{AreSides};
+
+use crate::pushing::law::contact;
+use crate::pushing::mixing::wall_side;
+use crate::pushing::sides::{law_between, posed_side};
+use dem_model::{Body, OutOfMemory, Pair, Push, Side, Touch};
+use dem_num::Vec3;
+use dem_shape::{Pose, Shapes};
+use std::alloc::Global;
+use std::marker::Model;
+
+/// A side per sphere, in the order of the spheres' numbers.
+#[derive(Drop)]
+pub struct Sides {
+    items: Vec<Side>,
+}
+
+impl Model for Sides {
+    ghost use Rattle.std.specs.Prelude.{List};
+    ghost use Rattle.dem_model.specs.declared.law.Side.{Side};
+
+    ghost Value = { List Side };
+
+    ghost view = { λ a. a.items.items };
+}
+
+impl Sides {
+    /// Room for the sides of these shapes.
+    pub fn new(alloc: Global, shapes: &Shapes) -> Result<Sides, OutOfMemory>
+        ensures { IfOk result (λ x. length x ≡ sphere_count shapes.now) }
+    {
+        let mut items = Vec::new(alloc);
+        for _ in 0..shapes.spheres() {
+            if items.push(wall_side()).is_err() {
+                return Err(OutOfMemory);
+            }
+        }
+        Ok(Sides { items })
+    }
+
+    /// Sets every side to what the bodies make it.
+    pub fn fill(&mut self, shapes: &Shapes, bodies: &[Body])
+        requires made { length self.old ≡ sphere_count shapes.now }
+        requires sound { AreSound shapes.now bodies.now }
+        ensures { AreSides shapes.now bodies.now self.new }
+    {
+        let _scene = shapes.scene();
+        let mut pose = Pose::new(shapes, bodies, 0);
+        for s in 0..shapes.spheres() {
+            pose = pose.for_sphere(shapes, bodies, s);
+            self.items[s as usize] = posed_side(shapes, bodies, &pose, s);
+        }
+    }
+
+    /// The side of a sphere.
+    fn get(&self, s: u32) -> &Side
+        requires { s < length self.now }
+        ensures { slice_index_or self.now s wall_side_of ≡ result.now }
+    {
+        &self.items[s as usize]
+    }
+}
+
+/// What a touching pair does, from sides that were made from these bodies, with the displacement that is stored for it.
+/// The bodies aren't looked at again: they stand here for what is promised.
+#[tactic(auto, unfolding(dem_model::specs::Step::push_of, dem_model::specs::Step::second_side_of))]
+pub fn push_from(
+    shapes: &Shapes,
+    bodies: &[Body],
+    sides: &Sides,
+    pair: Pair,
+    touch: Touch,
+    h: Vec3,
+) -> Push
+    requires pair { IsPair shapes.now pair }
+    requires sides { AreSides shapes.now bodies.now sides.now }
+    requires touch { IsTouch touch }
+    requires stored { Within (widened h) MAX_DISPLACEMENT }
+    ensures value { result ≡ push_of shapes.now bodies.now pair touch h }
+    ensures size { IsSmall result }
+{
+    let _made_from = bodies;
+    let law = law_between(shapes, pair);
+    let first = sides.get(pair.a);
+    if pair.b < shapes.spheres() {
+        contact(&law, first, sides.get(pair.b), touch, h)
+    } else {
+        contact(&law, first, &wall_side(), touch, h)
+    }
+}

@@ -1,0 +1,235 @@
+//! The force across the normal: elastic and damped, bounded by friction, and the displacement that is kept.
+
+ghost use Rattle.std.specs.Prelude.{
+  ◌≡◌,
+  pos,
+  ◌^◌,
+  ◌<◌,
+  ◌≤◌,
+  ◌*ℤ◌,
+  ◌-ℤ◌,
+  unsigned_abs,
+  ◌==◌,
+  nat_le,
+  if◌then◌else◌,
+};
+ghost use Rattle.dem_num.specs.Numbers.{AtMost, quotient, clamped, opposite, shifted, root_of};
+ghost use Rattle.dem_num.specs.Vectors.{widened, narrowed, no_vector, Within, norm2_of, quotients, scaled};
+ghost use Rattle.dem_model.specs.Law.{
+  damping_of,
+  carried_of,
+  trial_component,
+  trial_of,
+  friction_bound_of,
+  friction_of,
+  held_after,
+};
+ghost use Rattle.dem_model.specs.Ranges.{IsLaw};
+
+use crate::pushing::motion::part_across;
+use crate::pushing::normal::{damping, damping_factor};
+use dem_model::{Law, MAX_DISPLACEMENT, MAX_FORCE};
+use dem_num::{
+    Vec3, Wide3, ZERO, add3, cl, cl3, mul, narrow, narrow3, negated, norm2, root, sh, short3, sub,
+    tdiv, widen,
+};
+
+/// More than the length of any force across the normal.
+pub const MAX_LENGTH: u128 = 9_223_372_036_854_775_808;
+
+/// What friction leaves: the force across the normal, and the displacement that is kept.
+#[derive(Clone, Copy, PartialEq, Debug)]
+pub struct Grip {
+    pub friction: Wide3,
+    pub h: Vec3,
+}
+
+/// The displacement carried into this step: what is stored, brought across the normal, and what the step adds.
+#[tactic(auto, unfolding(dem_model::specs::Law::carried_of))]
+pub fn carried(n: Vec3, slip: Wide3, h0: Vec3) -> Vec3
+    requires normal { Within (widened n) (2 ^ 30) }
+    requires slip_small { Within slip (2 ^ 51) }
+    requires stored_small { Within (widened h0) MAX_DISPLACEMENT }
+    ensures value { result ≡ carried_of n slip h0 }
+    ensures size { Within (widened result) (2 ^ 40) }
+{
+    let turned = part_across(n, widen(h0));
+    narrow3(cl3(add3(turned, slip), MAX_DISPLACEMENT as i128))
+}
+
+/// A component of the tangential force before friction bounds it, from the factors of displacement and of speed.
+fn pull(stiffness: u64, factor: u128, h: i64, slip: i128) -> i128
+    requires stiffness_small { stiffness ≤ 2 ^ 55 }
+    requires factor_small { factor ≤ 2 ^ 66 }
+    requires held_small { AtMost h MAX_DISPLACEMENT }
+    requires slip_small { AtMost slip (2 ^ 51) }
+    ensures value { result ≡ clamped (opposite (shifted (pos stiffness *ℤ h) 32) -ℤ shifted (pos factor *ℤ slip) 32) (pos MAX_FORCE) }
+    ensures size { AtMost result (2 ^ 62) }
+{
+    let elastic = stretched(stiffness, h);
+    cl(
+        sub(negated(elastic), damping(factor, slip)),
+        MAX_FORCE as i128,
+    )
+}
+
+/// The elastic part of a component of the tangential force, the other way round.
+fn stretched(stiffness: u64, h: i64) -> i128
+    requires stiffness_small { stiffness ≤ 2 ^ 55 }
+    requires held_small { AtMost h MAX_DISPLACEMENT }
+    ensures value { result ≡ shifted (pos stiffness *ℤ h) 32 }
+    ensures size { AtMost result (2 ^ 63) }
+{
+    sh(mul(stiffness as i64 as i128, h as i128), 32)
+}
+
+/// The tangential force before friction bounds it: elastic and damped.
+#[tactic(auto, unfolding(dem_model::specs::Law::trial_of, dem_model::specs::Law::trial_component, dem_model::specs::Law::damping_of))]
+pub fn trial(law: &Law, c: u64, mass: u64, h: Vec3, slip: Wide3) -> Wide3
+    requires law { IsLaw law.now }
+    requires radius { c ≤ 2 ^ 27 }
+    requires mass_small { mass ≤ 2 ^ 40 }
+    requires held_small { Within (widened h) MAX_DISPLACEMENT }
+    requires slip_small { Within slip (2 ^ 51) }
+    ensures value { result ≡ trial_of law.now c mass h slip }
+    ensures size { Within result (2 ^ 62) }
+{
+    let stiffness = law.kt as u64 * c;
+    let factor = damping_factor(law.bt, law.kt, c, mass);
+    Wide3 {
+        x: pull(stiffness, factor, h.x, slip.x),
+        y: pull(stiffness, factor, h.y, slip.y),
+        z: pull(stiffness, factor, h.z, slip.z),
+    }
+}
+
+/// Coulomb's bound on the tangential force.
+#[tactic(auto, unfolding(dem_model::specs::Law::friction_bound_of))]
+pub fn friction_bound(mu: u32, force: u64) -> u128
+    requires ratio { mu ≤ 2 ^ 18 }
+    requires force_small { force ≤ 2 ^ 62 }
+    ensures value { result ≡ friction_bound_of mu force }
+    ensures size { result ≤ 2 ^ 64 }
+{
+    mu as u128 * force as u128 / 65_536
+}
+
+/// The number in the ratio of a bound to a size that passes it, rounded toward zero.
+fn shortened(x: i128, bound: u64, size: u64) -> i128
+    requires small { AtMost x (2 ^ 62) }
+    requires size_small { size ≤ 2 ^ 63 }
+    requires passed { bound < size }
+    ensures value { result ≡ quotient (pos bound *ℤ x) (pos size) }
+    ensures size { AtMost result (unsigned_abs x) }
+{
+    tdiv(mul(bound as i128, x), size as i128)
+}
+
+/// A force that passes a bound, shortened to it.
+fn shortened_force(force: Wide3, bound: u64, size: u64) -> Wide3
+    requires force_small { Within force (2 ^ 62) }
+    requires size_small { size ≤ 2 ^ 63 }
+    requires passed { bound < size }
+    ensures value { result ≡ quotients (scaled (pos bound) force) (pos size) }
+    ensures size { Within result (2 ^ 62) }
+{
+    Wide3 {
+        x: shortened(force.x, bound, size),
+        y: shortened(force.y, bound, size),
+        z: shortened(force.z, bound, size),
+    }
+}
+
+/// A component of a displacement in the ratio of a bound to a size that passes it.
+fn shortened_held(h: i64, bound: u64, size: u64) -> i64
+    requires held_small { AtMost h MAX_DISPLACEMENT }
+    requires size_small { size ≤ 2 ^ 63 }
+    requires passed { bound < size }
+    ensures value { result ≡ quotient (pos bound *ℤ h) (pos size) }
+    ensures size { AtMost result (2 ^ 40) }
+{
+    narrow(shortened(h as i128, bound, size))
+}
+
+/// A displacement, shortened as its force is.
+fn shortened_displacement(h: Vec3, bound: u64, size: u64) -> Vec3
+    requires held_small { Within (widened h) MAX_DISPLACEMENT }
+    requires size_small { size ≤ 2 ^ 63 }
+    requires passed { bound < size }
+    ensures value { result ≡ narrowed (quotients (scaled (pos bound) (widened h)) (pos size)) }
+    ensures size { Within (widened result) (2 ^ 40) }
+{
+    Vec3 {
+        x: shortened_held(h.x, bound, size),
+        y: shortened_held(h.y, bound, size),
+        z: shortened_held(h.z, bound, size),
+    }
+}
+
+/// The size of a force, in whole units.
+fn force_size(force: Wide3) -> u64
+    requires force_small { Within force (2 ^ 62) }
+    ensures value { result ≡ root_of (norm2_of force) }
+    ensures size { result ≤ 2 ^ 63 }
+{
+    root(norm2(force))
+}
+
+/// Whether a force is no longer than a bound, which the square of its length tells.
+#[tactic(auto, using(crate::proofs::SlideFacts::root_within, crate::proofs::SlideFacts::root_in_all, dem_num::proofs::VectorSizes::norm2_le))]
+fn sticks(force: Wide3, bound: u128) -> bool
+    requires force_small { Within force (2 ^ 62) }
+    ensures { result ≡ nat_le (root_of (norm2_of force)) bound }
+{
+    if bound >= MAX_LENGTH {
+        return true;
+    }
+    let next = bound + 1;
+    norm2(short3(force)) < next * next
+}
+
+/// What friction leaves of a trial force and of the displacement that made it.
+#[tactic(auto, unfolding(dem_model::specs::Law::friction_of, dem_model::specs::Law::held_after))]
+pub fn gripped(kt: u32, bound: u128, trial: Wide3, h: Vec3) -> Grip
+    requires trial_small { Within trial (2 ^ 62) }
+    requires held_small { Within (widened h) MAX_DISPLACEMENT }
+    ensures friction { result.friction ≡ friction_of bound trial }
+    ensures held { result.h ≡ held_after kt bound trial h }
+    ensures friction_size { Within result.friction (2 ^ 62) }
+    ensures held_size { Within (widened result.h) MAX_DISPLACEMENT }
+{
+    if sticks(trial, bound) {
+        return Grip {
+            friction: trial,
+            h: held_where(kt, h),
+        };
+    }
+    slipping(kt, bound as u64, trial, h)
+}
+
+/// What friction leaves where the trial force passes its bound.
+#[tactic(auto, unfolding(dem_model::specs::Law::friction_of, dem_model::specs::Law::held_after))]
+fn slipping(kt: u32, bound: u64, trial: Wide3, h: Vec3) -> Grip
+    requires trial_small { Within trial (2 ^ 62) }
+    requires held_small { Within (widened h) MAX_DISPLACEMENT }
+    requires passed { bound < root_of (norm2_of trial) }
+    ensures friction { result.friction ≡ friction_of bound trial }
+    ensures held { result.h ≡ held_after kt bound trial h }
+    ensures friction_size { Within result.friction (2 ^ 62) }
+    ensures held_size { Within (widened result.h) MAX_DISPLACEMENT }
+{
+    let size = force_size(trial);
+    Grip {
+        friction: shortened_force(trial, bound, size),
+        h: held_where(kt, shortened_displacement(h, bound, size)),
+    }
+}
+
+/// The displacement, where there is a tangential stiffness to hold it.
+fn held_where(kt: u32, h: Vec3) -> Vec3
+    requires held_small { Within (widened h) MAX_DISPLACEMENT }
+    ensures value { result ≡ (if kt == 0 then narrowed no_vector else h) }
+    ensures size { Within (widened result) (2 ^ 40) }
+{
+    if kt == 0 { ZERO } else { h }
+}

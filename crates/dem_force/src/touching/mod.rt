@@ -1,0 +1,4 @@
+//! Whether and how a pair touches.
+
+pub mod pairs;
+pub mod spheres;

@@ -1,6 +1,0 @@
-use Rattle.std.proofs.Common.{◌≡◌, replicate}
-use Rattle.dem_model.specs.Step.{no_load}
-use Rattle.dem_plain.proofs.met.no_loads.Given as goal
-
-abbrev pub invariant-loop : goal.invariant-loop
-invariant-loop l = l.loads.items ≡ replicate l.counter no_load

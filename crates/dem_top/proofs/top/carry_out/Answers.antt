@@ -1,0 +1,4 @@
+use Rattle.dem_top.proofs.top.carry_out.Goals as goal
+
+pub returns-in-Plain-clause-does : goal.returns-in-Plain-clause-does
+returns-in-Plain-clause-does g c = rw (← c.order.view_is, c.in-Plain.is) c.plain.ensures.does

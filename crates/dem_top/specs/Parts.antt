@@ -1,0 +1,102 @@
+-- What the parts of a call promise: the reading, the job, and the line on `note`.
+use Rattle.std.specs.Prelude.{◌≡◌, ℕ, ◌+◌, ◌≤◌, List, length, Result, Ok, Err, Vec, ◌⊎◌}
+use Rattle.std.specs.Io.KnownBytes.{Consumes, IsAtEnd}
+use Rattle.std.specs.declared.alloc.Global.{Global}
+use Rattle.dem_outside.specs.Change.{Stream, Change, IsKept, IsCalm, Fails, Gains, GainsPrefix}
+use Rattle.dem_model.specs.SceneValue.{SceneValue}
+use Rattle.dem_model.specs.ReadingScene.{scene_from}
+use Rattle.dem_model.specs.declared.state.Last.{Last}
+use Rattle.dem_model.specs.declared.state.Last.TheVariants as lasts
+use Rattle.dem_model.specs.declared.fault.SceneFault.{SceneFault}
+use Rattle.dem_model.specs.declared.fault.SceneFault.TheVariants as scenes
+use Rattle.dem_output.specs.declared.running.RunFault.{RunFault}
+use Rattle.dem_output.specs.declared.running.RunFault.TheVariants as runs
+use Rattle.dem_top.specs.declared.reading.ReadFault.{ReadFault}
+use Rattle.dem_top.specs.declared.reading.ReadFault.TheVariants as reading
+use Rattle.dem_top.specs.declared.outcome.Outcome.{Outcome}
+use Rattle.dem_top.specs.declared.outcome.Outcome.TheVariants as outcomes
+use Rattle.dem_top.specs.declared.outcome.NotDone.{NotDone}
+use Rattle.dem_top.specs.declared.outcome.NotDone.TheVariants as stops
+use Rattle.dem_top.specs.declared.refusal.Refusal.TheVariants as refusals
+use Rattle.dem_top.specs.Verdicts.{Refused, read_failed_text}
+use Rattle.dem_top.specs.Jobs.{Job, ReadsWhole, ForLeft}
+use Rattle.dem_top.specs.Answers.{Fulfils, Begins}
+use Rattle.dem_top.specs.Refusals.{outcome_status, refusal_status, refusal_text}
+
+-- ---- why a job wasn't done, by the fault of one of its parts
+
+-- a read that failed, or no memory for what was read
+abbrev pub read_stop : ReadFault → NotDone
+read_stop reading.Failed = stops.ReadFailed
+read_stop reading.OutOfMemory = stops.OutOfMemory
+
+-- a scene text that is refused; no memory is no fault of the text
+abbrev pub scene_stop : SceneFault → NotDone
+scene_stop scenes.OutOfMemory = stops.OutOfMemory
+scene_stop fault = stops.Refused (refusals.Scene fault)
+
+-- a put that failed, or no memory for the run
+abbrev pub run_stop : RunFault → NotDone
+run_stop runs.WriteFault = stops.WriteFailed
+run_stop runs.OutOfMemory = stops.OutOfMemory
+
+-- how a run ends
+abbrev pub run_outcome : Last → Outcome
+run_outcome (lasts.Done step) = outcomes.Reached
+run_outcome (lasts.Passed e) = outcomes.Passed
+
+-- ---- the reading
+
+-- the source was read to its end, or one byte past this length; or a read failed, or there was no memory
+abbrev pub ReadsAll : ℕ → Change → Result (Vec ℕ Global) ReadFault → Type 0
+ReadsAll limit source (Ok bytes) =
+    Consumes source.before.bytes source.after.bytes bytes.items × (length bytes.items ≤ limit → IsAtEnd source.after.bytes) × (length bytes.items ≤ limit + 1) × IsCalm source
+ReadsAll limit source (Err reading.Failed) = Fails source
+ReadsAll limit source (Err reading.OutOfMemory) = IsCalm source
+
+-- the scene that the source has, or why there is none
+abbrev pub ReadsScene : Change → Result SceneValue NotDone → Type 0
+ReadsScene source (Ok scene) = ForLeft source (λ bytes. scene_from bytes ≡ Ok scene) × IsAtEnd source.after.bytes × IsCalm source
+ReadsScene source (Err (stops.Refused (refusals.Scene fault))) = ForLeft source (λ bytes. scene_from bytes ≡ Err fault) × IsCalm source
+ReadsScene source (Err stops.ReadFailed) = Fails source
+ReadsScene source (Err stops.OutOfMemory) = IsCalm source
+ReadsScene source (Err fault) = ⊥
+
+-- ---- the job
+
+-- what a job does, by its answer
+abbrev pub Does : Job → (source out note : Change) → Result Outcome NotDone → Type 0
+Does job source out note (Ok outcome) =
+    ForLeft source (Fulfils job out note (outcome_status outcome)) × ReadsWhole job.limit source × IsCalm source × IsCalm out × IsCalm note
+Does job source out note (Err (stops.Refused refusal)) =
+    ForLeft source (λ bytes. job.verdict bytes ≡ Refused (refusal_status refusal) (refusal_text refusal)) × IsKept out × IsKept note × IsCalm source × IsCalm out × IsCalm note
+Does job source out note (Err stops.ReadFailed) = Fails source × IsKept out × IsKept note × IsCalm out × IsCalm note
+Does job source out note (Err stops.WriteFailed) = ForLeft source (Begins job out note) × IsCalm source × (Fails out ⊎ Fails note)
+Does job source out note (Err stops.OutOfMemory) = ForLeft source (Begins job out note) × IsCalm source × IsCalm out × IsCalm note
+
+-- a sink that isn't touched
+abbrev pub idle : Stream → Change
+idle sink = record { before = sink; after = sink }
+
+-- what a job does that notes nothing
+abbrev pub DoesQuietly : Job → (source out : Change) → Result Outcome NotDone → Type 0
+DoesQuietly job source out result = (note : Stream) → Does job source out (idle note) result
+
+-- ---- the line on `note`
+
+-- the line was put, and this is the status; or its put failed
+abbrev pub PutsLine : ℕ → List ℕ → Change → ℕ → Type 0
+PutsLine right line note status =
+    ((status ≡ right) × Gains note line × IsCalm note) ⊎ ((status ≡ 5) × GainsPrefix note line × Fails note)
+
+-- nothing was put, and this is the status
+abbrev pub PutsNothing : ℕ → Change → ℕ → Type 0
+PutsNothing right note status = (status ≡ right) × IsKept note × IsCalm note
+
+-- what a job's answer puts on `note`, and its status
+abbrev pub Tells : Result Outcome NotDone → Change → ℕ → Type 0
+Tells (Ok outcome) = PutsNothing (outcome_status outcome)
+Tells (Err (stops.Refused refusal)) = PutsLine (refusal_status refusal) (refusal_text refusal)
+Tells (Err stops.ReadFailed) = PutsLine 4 read_failed_text
+Tells (Err stops.WriteFailed) = PutsNothing 5
+Tells (Err stops.OutOfMemory) = PutsNothing 6

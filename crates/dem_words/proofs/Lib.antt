@@ -1,0 +1,4 @@
+pub mod MatchFacts
+pub mod CommandFacts
+pub mod NumberFacts
+pub mod TurnFacts

@@ -1,0 +1,4 @@
+pub mod CommandLine
+pub mod Values
+pub mod Orders
+pub mod Meaning

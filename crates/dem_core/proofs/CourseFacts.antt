@@ -1,5 +1,5 @@
 -- When a run on lists may take a list and make a step, and that it stays on its course.
-use Rattle.std.proofs.Common.{◌≡◌, ℕ, zero, suc, ◌+◌, ◌*◌, ◌^◌, ◌<◌, ◌≤◌, ◌⊎◌, ◌↔◌, inl, inr, Bool, true, false, not, ◌&&◌, cond, List, [], ◌∷◌, length, map, get_or, Option, None, Some, Result, Ok, Err, is_some, IsSomeAnd, nat_lt, nat_le, refl, sym, ap, ap₂, ◌∙◌, subst, arith, true≢false}
+use Rattle.std.proofs.Common.{◌≡◌, ℕ, zero, suc, ◌+◌, ◌*◌, ◌^◌, ◌<◌, ◌≤◌, ◌⊎◌, ◌↔◌, inl, inr, Bool, true, false, not, ◌&&◌, cond, List, [], ◌∷◌, length, map, get_or, drop, Option, None, Some, Result, Ok, Err, is_some, IsSomeAnd, nat_lt, nat_le, refl, sym, ap, ap₂, ◌∙◌, subst, arith, true≢false}
 use Rattle.std.specs.Prelude.{All, IfErr, slice_get, if◌then◌else◌}
 use Rattle.std.proofs.lemmas.Bool.{and_parts, ltb-true, lt-ltb, leb-true, le-leb, eq-eqb, ne_eqb, cases_lt}
 use Rattle.std.proofs.lemmas.List.{ext_get_or, length-map, get_or-map, get_or_default}
@@ -26,7 +26,7 @@ use Rattle.dem_plain.proofs.RunFacts.{plain_first}
 use Rattle.dem_output.proofs.RunLaw.{step_of-step}
 use Rattle.dem_step.specs.Stepper.{Stepper, CanStep, state_at, IsListOfRun, IsInTime}
 use Rattle.dem_step.proofs.StepFacts.{plain-after}
-use Rattle.dem_core.specs.TheWorld.{Course, is_open, is_past, is_young, may_post, may_step, done_at, end_text, after_step, stepped, with_list, first_course}
+use Rattle.dem_model.specs.World.{Course, is_open, is_past, is_young, may_post, may_step, done_at, end_text, after_step, stepped, with_list, first_course}
 use Rattle.dem_core.specs.Courses.{Running, IsOnCourse, HasList, HasEnd, MayCollect, course_of, IsCounted}
 use Rattle.dem_core.proofs.OutputFacts.{last-done, last-passed}
 
@@ -116,9 +116,7 @@ ended-number n k (Err kind) = refl
 advanced-number : (s : SceneValue) (n k : ℕ) (cs : List Clump) (bs : List Body) (ws : List Load) → IfErr (advanced_from s n k cs bs ws) (λ (e : End). e.step ≡ n)
 unfolding advanced_from
 advanced-number s n k [] bs ws = tt
-advanced-number s n k (c ∷ cs) [] ws = tt
-advanced-number s n k (c ∷ cs) (b ∷ bs) [] = tt
-advanced-number s n k (c ∷ cs) (b ∷ bs) (w ∷ ws) = joined-number n _ _ (ended-number n k _) (advanced-number s n (k + 1) cs bs ws)
+advanced-number s n k (c ∷ cs) bs ws = joined-number n _ _ (ended-number n k _) (advanced-number s n (k + 1) cs (drop 1 bs) (drop 1 ws))
 
 state_with-number : (n : ℕ) (ms : List Meeting) (r : Result (List Body) End) → IfErr r (λ (e : End). e.step ≡ n) → IfErr (state_with n ms r) (λ (e : End). e.step ≡ n)
 unfolding state_with

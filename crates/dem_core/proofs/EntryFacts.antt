@@ -9,7 +9,7 @@ use Rattle.dem_model.specs.Carry.{kept_of}
 use Rattle.dem_model.specs.Frames.{clump_text, clumps_text, pair_text, pairs_text}
 use Rattle.dem_model.specs.declared.state.Body.{Body}
 use Rattle.dem_model.specs.declared.state.Pair.{Pair}
-use Rattle.dem_outside.specs.Known.{AppendsFront}
+use Rattle.dem_outside.specs.Known.{AppendsPrefix}
 use Rattle.dem_outside.proofs.Written.{Written, Written-piece, Written-failed, Written-all}
 use Rattle.dem_frame.proofs.StateFacts.{clumps-more, clumps-failed}
 use Rattle.dem_core.specs.Rows.{entry_text}
@@ -43,7 +43,7 @@ entries-more old mid now ps es i p e here entry before more =
 
 -- the row of place i failed
 pub entries-failed : (old mid now : Option (List ℕ)) (ps : List Pair) (es : List (Option Vec3)) (i : ℕ) (p : Pair) (e : Option Vec3) → slice_get ps i ≡ Some p → slice_get es i ≡ Some e
-    → Written old mid (rows_from ps es i) (pairs_text (kept_of ps es)) → AppendsFront mid now (entry_text p e) → AppendsFront old now (pairs_text (kept_of ps es))
+    → Written old mid (rows_from ps es i) (pairs_text (kept_of ps es)) → AppendsPrefix mid now (entry_text p e) → AppendsPrefix old now (pairs_text (kept_of ps es))
 entries-failed old mid now ps es i p e here entry before front =
     Written-failed old mid now (entry_text p e) _ _ (rw (rows_from-next ps es i p e here entry) at before) front
 
@@ -62,6 +62,6 @@ bodies-more old mid now bodies i b here before more =
 
 -- the row of a clump failed
 pub bodies-failed : (old mid now : Option (List ℕ)) (bodies : List Body) (i : ℕ) (b : Body) → slice_get bodies i ≡ Some b
-    → Written old mid (clumps_text i (drop i bodies)) (clumps_text 0 bodies) → AppendsFront mid now (clump_text i b) → AppendsFront old now (clumps_text 0 bodies)
+    → Written old mid (clumps_text i (drop i bodies)) (clumps_text 0 bodies) → AppendsPrefix mid now (clump_text i b) → AppendsPrefix old now (clumps_text 0 bodies)
 bodies-failed old mid now bodies i b here before front =
-    clumps-failed old mid now bodies i i b (slice_get_within bodies i b here) refl before (subst (λ x. AppendsFront mid now (clump_text i x)) (sym (get_or_from_slice_get bodies i b b here)) front)
+    clumps-failed old mid now bodies i i b (slice_get_within bodies i b here) refl before (subst (λ x. AppendsPrefix mid now (clump_text i x)) (sym (get_or_from_slice_get bodies i b b here)) front)

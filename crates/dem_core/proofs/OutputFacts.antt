@@ -15,7 +15,7 @@ use Rattle.dem_model.specs.declared.state.End.{End}
 use Rattle.dem_model.specs.declared.state.Last.{Last}
 use Rattle.dem_model.specs.declared.state.Last.TheVariants.{Done, Passed}
 use Rattle.dem_step.proofs.DriftFacts.{HasBefore, has_before}
-use Rattle.dem_output.specs.Running.{due_text}
+use Rattle.dem_model.specs.Output.{due_text}
 use Rattle.dem_output.proofs.RunLaw.{by_step, frames_from, last_from, frames-left, last-left}
 use Rattle.dem_core.specs.SoFar.{frames_to}
 

@@ -13,7 +13,7 @@ use Rattle.dem_model.specs.declared.state.State.{State}
 use Rattle.dem_list.specs.Ascending.{Pairs}
 use Rattle.dem_step.specs.Contacts.{AreContacts}
 use Rattle.dem_step.specs.Stepper.{Stepper, IsListOfRun, TakesList, MakesStep, IsInTime}
-use Rattle.dem_core.specs.TheWorld.{Course, is_open, is_past, may_post, may_step, done_at, after_step, stepped, with_list}
+use Rattle.dem_model.specs.World.{Course, is_open, is_past, may_post, may_step, done_at, after_step, stepped, with_list}
 use Rattle.dem_core.specs.Courses.{Running, IsOnCourse, MayCollect, course_of, IsCounted}
 use Rattle.dem_core.proofs.CourseFacts.{open-none, in-time, may-goes_on, IsOnCourse-stepped, IsOnCourse-with_list, list-near, IsCounted-stepped, entries-back}
 

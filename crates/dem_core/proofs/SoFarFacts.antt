@@ -12,9 +12,9 @@ use Rattle.dem_model.specs.declared.state.Last.{Last}
 use Rattle.dem_model.specs.declared.state.Last.TheVariants.{Done, Passed}
 use Rattle.dem_plain.proofs.RunFacts.{plain_first}
 use Rattle.dem_step.proofs.StepFacts.{plain-after, plain-number}
-use Rattle.dem_output.specs.Running.{due_text}
+use Rattle.dem_model.specs.Output.{due_text}
 use Rattle.dem_output.proofs.RunLaw.{frames_from, step_of-step}
-use Rattle.dem_core.specs.TheWorld.{Course, may_step, done_at, end_text, reached_text, step_text, after_step, stepped, with_list, first_course}
+use Rattle.dem_model.specs.World.{Course, may_step, done_at, end_text, reached_text, step_text, after_step, stepped, with_list, first_course}
 use Rattle.dem_core.specs.Courses.{IsOnCourse, HasEnd}
 use Rattle.dem_core.specs.SoFar.{frames_to, text_so_far}
 use Rattle.dem_core.proofs.OutputFacts.{frames_to-next, frames_to-first, output-cut, output-done, output-passed}

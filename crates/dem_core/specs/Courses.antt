@@ -3,7 +3,7 @@ use Rattle.std.specs.Prelude.{ℕ, ◌≡◌, ◌+◌, ◌*◌, ◌^◌, ◌<◌
 use Rattle.std.specs.Io.KnownBytes.{Appends, Keeps}
 use Rattle.std.specs.Option.{IsSomeAnd}
 use Rattle.dem_outside.specs.Faults.{Rose}
-use Rattle.dem_outside.specs.Known.{AppendsFront}
+use Rattle.dem_outside.specs.Known.{AppendsPrefix}
 use Rattle.dem_model.specs.SceneValue.{SceneValue}
 use Rattle.dem_model.specs.Carry.{kept_of, Agrees}
 use Rattle.dem_model.specs.Centers.{centers_of}
@@ -18,7 +18,7 @@ use Rattle.dem_model.specs.declared.state.State.{State}
 use Rattle.dem_list.specs.Ascending.{Pairs}
 use Rattle.dem_step.specs.Contacts.{IsHeldIn}
 use Rattle.dem_step.specs.Stepper.{Stepper}
-use Rattle.dem_core.specs.TheWorld.{Course, is_open, is_past, first_course, with_list, row_with, reached_text}
+use Rattle.dem_model.specs.World.{Course, is_open, is_past, first_course, with_list, row_with, reached_text}
 use Rattle.dem_core.specs.declared.did.WorldStop.{WorldStop}
 use Rattle.dem_core.specs.declared.did.WorldStop.TheVariants.{WriteFault, OutOfMemory}
 
@@ -83,14 +83,14 @@ pub record MayCollect (c : Course) (from : ℕ) : Type 0 where
 abbrev pub BeginsCourse : SceneValue → ℕ → (held now : Option (List ℕ)) → (faults faults_now : ℕ) → Result Running WorldStop → Type 0
 BeginsCourse s drift held now faults faults_now (Ok run) =
     (run ≡ record { scene = s; drift = drift; course = first_course s }) × Appends held now (reached_text s (first_state s)) × (faults_now ≡ faults)
-BeginsCourse s drift held now faults faults_now (Err WriteFault) = AppendsFront held now (reached_text s (first_state s)) × Rose faults faults_now
+BeginsCourse s drift held now faults faults_now (Err WriteFault) = AppendsPrefix held now (reached_text s (first_state s)) × Rose faults faults_now
 BeginsCourse s drift held now faults faults_now (Err OutOfMemory) = Keeps held now × (faults_now ≡ faults)
 
 -- a list isn't taken into use with its row: the put failed, and the list is in use; or no memory was there, nothing has changed and the very list comes back
 abbrev pub Refuses : Running → Running → Pairs → (held now : Option (List ℕ)) → (faults faults_now : ℕ) → Pairs → WorldStop → Type 0
 Refuses old new list held now faults faults_now back WriteFault =
     (new ≡ record { scene = old.scene; drift = old.drift; course = with_list old.course list.from list.pairs })
-    × AppendsFront held now (taken_text (row_with old.course list.from list.pairs))
+    × AppendsPrefix held now (taken_text (row_with old.course list.from list.pairs))
     × Rose faults faults_now
 Refuses old new list held now faults faults_now back OutOfMemory = (new ≡ old) × (back ≡ list) × Keeps held now × (faults_now ≡ faults)
 

@@ -1,5 +1,3 @@
-pub mod TheWorld
-pub mod TakenRows
 pub mod Courses
 pub mod Rows
 pub mod Worlds

@@ -6,8 +6,8 @@ use Rattle.dem_model.specs.SceneValue.{SceneValue}
 use Rattle.dem_model.specs.Output.{is_due, frame_at}
 use Rattle.dem_model.specs.declared.state.Last.{Last}
 use Rattle.dem_model.specs.declared.state.TakenRow.{TakenRow}
-use Rattle.dem_core.specs.TheWorld.{Course, end_text, rows_text}
-use Rattle.dem_core.specs.TakenRows.{AreRows, BeginsAtFirst, begun, tests_until}
+use Rattle.dem_model.specs.World.{Course, end_text, rows_text}
+use Rattle.dem_model.specs.TakenRows.{AreRows, BeginsAtFirst, begun, tests_until}
 
 -- the frames that are due up to the state of this number
 unfoldable pub frames_to : SceneValue → ℕ → List ℕ

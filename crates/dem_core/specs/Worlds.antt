@@ -2,7 +2,7 @@
 use Rattle.std.specs.Prelude.{ℕ, ◌≡◌, ◌+◌, ◌⊎◌, ◌<◌, ◌≤◌, Bool, true, false, List, [], ◌∷◌, length, Option, Some, None, Result, Ok, Err, if◌then◌else◌}
 use Rattle.std.specs.Io.KnownBytes.{Appends, Keeps}
 use Rattle.dem_outside.specs.Faults.{Rose}
-use Rattle.dem_outside.specs.Known.{AppendsFront}
+use Rattle.dem_outside.specs.Known.{AppendsPrefix}
 use Rattle.dem_model.specs.SceneValue.{SceneValue}
 use Rattle.dem_model.specs.Plain.{first_state, plain_at}
 use Rattle.dem_model.specs.declared.state.Last.{Last}
@@ -12,7 +12,7 @@ use Rattle.dem_shape.specs.declared.snapshot.Snapshot.{Snapshot}
 use Rattle.dem_list.specs.Ascending.{Pairs}
 use Rattle.dem_margin.specs.NearList.{IsNearListOf}
 use Rattle.dem_step.specs.Stepper.{IsSnapshotOfRun, state_at}
-use Rattle.dem_core.specs.TheWorld.{Snap, Parcel, Home, Posted, Taken, Delivered, Course, World, is_past, is_open, enabled, turned, first_world, reached_text, turn_text, turn_rows, rows_text, world_after, text_after, rows_after, next_turn, GoesOnBy}
+use Rattle.dem_model.specs.World.{Snap, Parcel, Home, Posted, Taken, Delivered, Course, World, is_past, is_open, enabled, turned, first_world, reached_text, turn_text, turn_rows, rows_text, world_after, text_after, rows_after, next_turn, GoesOnBy}
 use Rattle.dem_core.specs.Courses.{Running}
 use Rattle.dem_core.specs.declared.parcel.Parcel.{Parcel as Room}
 use Rattle.dem_core.specs.declared.did.Did.{Did}
@@ -98,7 +98,7 @@ Turns old new turn (Err OutOfMemory) = (enabled old.scene old.drift old.world tu
 -- what a sink gains by a turn: its text; or a prefix of it, where a put failed; or nothing, where memory was refused
 abbrev pub Gains : {A : Type 0} → (text : List ℕ) → (held now : Option (List ℕ)) → Result A WorldStop → Type 0
 Gains text held now (Ok _) = Appends held now text
-Gains text held now (Err WriteFault) = AppendsFront held now text
+Gains text held now (Err WriteFault) = AppendsPrefix held now text
 Gains text held now (Err OutOfMemory) = Keeps held now
 
 -- the count of one of the sinks rose where a put failed; else neither changed
@@ -119,7 +119,7 @@ BeginsWorld s drift held now faults faults_now (Ok new) =
     (new ≡ record { scene = s; drift = drift; world = first_world s; stopped = false })
     × Appends held now (reached_text s (first_state s))
     × (faults_now ≡ faults)
-BeginsWorld s drift held now faults faults_now (Err WriteFault) = AppendsFront held now (reached_text s (first_state s)) × Rose faults faults_now
+BeginsWorld s drift held now faults faults_now (Err WriteFault) = AppendsPrefix held now (reached_text s (first_state s)) × Rose faults faults_now
 BeginsWorld s drift held now faults faults_now (Err OutOfMemory) = Keeps held now × (faults_now ≡ faults)
 
 -- ---- what the turns of `finish` change
@@ -137,7 +137,7 @@ LeadTo old turns new (Err OutOfMemory) = (new ≡ with_turns old turns false) ×
 -- what a sink gains by these turns: their text; or a prefix of it, where a put failed
 abbrev pub GainsAll : {A : Type 0} → (text : List ℕ) → (held now : Option (List ℕ)) → Result A WorldStop → Type 0
 GainsAll text held now (Ok _) = Appends held now text
-GainsAll text held now (Err WriteFault) = AppendsFront held now text
+GainsAll text held now (Err WriteFault) = AppendsPrefix held now text
 GainsAll text held now (Err OutOfMemory) = Appends held now text
 
 -- the world goes on by itself by some turns

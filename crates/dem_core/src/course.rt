@@ -5,7 +5,7 @@ ghost use Rattle.dem_outside.specs.Faults.{Counts};
 ghost use Rattle.dem_outside.specs.Known.{PutAppends};
 ghost use Rattle.dem_model.specs.Step.{step_of};
 ghost use Rattle.dem_step.specs.Stepper.{IsSnapshotOfRun, IsListOfRun};
-ghost use Rattle.dem_core.specs.TheWorld.{may_post, may_step, stepped, step_text};
+ghost use Rattle.dem_model.specs.World.{may_post, may_step, stepped, step_text};
 ghost use Rattle.dem_core.specs.Courses.{IsOnCourse, HoldsRight, MayCollect, BeginsCourse, Collects};
 
 use crate::did::WorldStop;

@@ -5,8 +5,8 @@ ghost use Rattle.dem_outside.specs.Faults.{Counts};
 ghost use Rattle.dem_outside.specs.Known.{PutAppends};
 ghost use Rattle.dem_model.specs.Carry.{kept_of};
 ghost use Rattle.dem_model.specs.Frames.{state_text, clumps_text, pairs_text};
-ghost use Rattle.dem_output.specs.Running.{due_text};
-ghost use Rattle.dem_core.specs.TheWorld.{done_at as done_at_of, reached_text};
+ghost use Rattle.dem_model.specs.Output.{due_text};
+ghost use Rattle.dem_model.specs.World.{done_at as done_at_of, reached_text};
 ghost use Rattle.dem_core.specs.Rows.{entry_text};
 
 use dem_frame::{WriteFault, write_clump, write_end, write_head, write_pair};
@@ -18,7 +18,7 @@ use dem_outside::Sink;
 use dem_step::Dyn;
 
 /// How a run ends that reaches the state of this number, where that is the last.
-#[tactic(auto, unfolding(crate::specs::TheWorld::done_at))]
+#[tactic(auto, unfolding(dem_model::specs::World::done_at))]
 pub fn done_at(scene: &Scene, step: u32) -> Option<Last>
     ensures { result ≡ done_at_of scene.now step }
 {
@@ -43,7 +43,7 @@ pub fn write_reached<K: Sink>(out: &mut K, run: &Dyn) -> Result<(), WriteFault>
 }
 
 // Writes the frame of the state, where it is due.
-#[tactic(auto, unfolding(dem_output::specs::Running::due_text))]
+#[tactic(auto, unfolding(dem_model::specs::Output::due_text))]
 fn write_due<K: Sink>(out: &mut K, run: &Dyn) -> Result<(), WriteFault>
     requires { kept_of run.now.contacts.list.pairs run.now.contacts.entries ≡ run.now.state.held }
     ensures count { Counts (K.faults out.old) (K.faults out.new) result }

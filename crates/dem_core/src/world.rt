@@ -1,7 +1,7 @@
 //! The world of turns: a run on lists, and the exchange that brings them, on one thread.
 
 ghost use Rattle.std.specs.Prelude.{◌≡◌, ◌+◌, ◌<◌, ◌≤◌, true, false, length, slice_get, Ok, Some};
-ghost use Rattle.dem_core.specs.TheWorld.{enabled, next_turn as next_turn_of, turn_text, turn_rows, turn_tests, rows_text, is_open};
+ghost use Rattle.dem_model.specs.World.{enabled, next_turn as next_turn_of, turn_text, turn_rows, turn_tests, rows_text, is_open};
 ghost use Rattle.dem_core.specs.Courses.{IsOnCourse, HoldsRight};
 ghost use Rattle.dem_model.specs.declared.state.Turn.TheVariants.{Post, Take, Deliver, Collect, Step};
 ghost use Rattle.dem_core.specs.Worlds.{HasParcel, Turns, NoPut, Gains, HasFaults, BeginsWorld, GoesOn};

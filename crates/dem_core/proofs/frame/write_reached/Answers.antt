@@ -3,9 +3,9 @@ use Rattle.std.specs.Io.KnownBytes.{Appends}
 use Rattle.std.proofs.lemmas.Result.{err_from_is_err_and}
 use Rattle.dem_model.specs.Frames.{last_text}
 use Rattle.dem_outside.specs.Known.{PutAppends}
-use Rattle.dem_outside.proofs.Fronts.{AppendsFront-longer, PutAppends-after}
-use Rattle.dem_output.specs.Running.{due_text}
-use Rattle.dem_core.specs.TheWorld.{done_at, reached_text, end_text}
+use Rattle.dem_outside.proofs.Prefixes.{AppendsPrefix-longer, PutAppends-after}
+use Rattle.dem_model.specs.Output.{due_text}
+use Rattle.dem_model.specs.World.{done_at, reached_text, end_text}
 use Rattle.dem_core.proofs.CourseFacts.{end_text-told}
 use Rattle.dem_core.proofs.frame.write_reached.Goals as goal
 
@@ -13,7 +13,7 @@ pub returns-in_err-write_due-clause-written : goal.returns-in_err-write_due-clau
 unfolding reached_text
 returns-in_err-write_due-clause-written g c =
     let p = err_from_is_err_and c.from_residual.result c.from_residual.ensures.1 in rw (p.1)
-    (AppendsFront-longer _ _ (due_text c.args.run.now.scene c.args.run.now.state) _ c.in_err-write_due.ensures.written)
+    (AppendsPrefix-longer _ _ (due_text c.args.run.now.scene c.args.run.now.state) _ c.in_err-write_due.ensures.written)
 
 pub returns-in-Some-clause-written : goal.returns-in-Some-clause-written
 unfolding reached_text end_text

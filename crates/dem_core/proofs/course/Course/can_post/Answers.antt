@@ -1,5 +1,5 @@
 use Rattle.std.proofs.Common.{sym, ap, ◌∙◌}
-use Rattle.dem_core.specs.TheWorld.{may_post}
+use Rattle.dem_model.specs.World.{may_post}
 use Rattle.dem_core.specs.Courses.{Running, course_of}
 use Rattle.dem_core.proofs.RunningFacts.{may_post-some, may_post-none, may_post-ended}
 use Rattle.dem_core.proofs.course.Course.can_post.Goals as goal

@@ -1,5 +1,5 @@
 use Rattle.std.proofs.Common.{sym, ap, ◌∙◌}
-use Rattle.dem_core.specs.TheWorld.{may_step}
+use Rattle.dem_model.specs.World.{may_step}
 use Rattle.dem_core.specs.Courses.{Running, course_of}
 use Rattle.dem_core.proofs.CourseFacts.{may_step-told, may_step-closed, none-of}
 use Rattle.dem_core.proofs.course.Course.can_step.Goals as goal

@@ -1,0 +1,4 @@
+pub mod Bins
+pub mod Blocks
+pub mod Keys
+pub mod Walk

@@ -19,6 +19,8 @@ use Rattle.dem_list.specs.Ascending.{Pairs}
 use Rattle.dem_step.specs.Contacts.{IsHeldIn}
 use Rattle.dem_step.specs.Stepper.{Stepper}
 use Rattle.dem_model.specs.World.{Course, is_open, is_past, first_course, with_list, row_with, reached_text}
+use Rattle.dem_output.specs.declared.running.RunFault.{RunFault}
+use Rattle.dem_output.specs.declared.running.RunFault.TheVariants as faults
 use Rattle.dem_core.specs.declared.did.WorldStop.{WorldStop}
 use Rattle.dem_core.specs.declared.did.WorldStop.TheVariants.{WriteFault, OutOfMemory}
 
@@ -101,3 +103,8 @@ Collects old new list held now faults faults_now (Ok back) =
     × Appends held now (taken_text (row_with old.course list.from list.pairs))
     × (faults_now ≡ faults)
 Collects old new list held now faults faults_now (Err refused) = Refuses old new list held now faults faults_now refused.0 refused.1
+
+-- which fault of a run a stop of a world is
+abbrev pub fault_of : WorldStop → RunFault
+fault_of WriteFault = faults.WriteFault
+fault_of OutOfMemory = faults.OutOfMemory

@@ -4,6 +4,7 @@ use Rattle.std.specs.Io.KnownBytes.{Appends, Keeps}
 use Rattle.dem_outside.specs.Faults.{Rose}
 use Rattle.dem_outside.specs.Known.{AppendsPrefix}
 use Rattle.dem_model.specs.SceneValue.{SceneValue}
+use Rattle.dem_model.specs.Centers.{centers_of}
 use Rattle.dem_model.specs.Plain.{first_state, plain_at}
 use Rattle.dem_model.specs.declared.state.Last.{Last}
 use Rattle.dem_model.specs.declared.state.Turn.{Turn}
@@ -11,8 +12,9 @@ use Rattle.dem_model.specs.declared.state.Turn.TheVariants.{Post, Take, Deliver,
 use Rattle.dem_shape.specs.declared.snapshot.Snapshot.{Snapshot}
 use Rattle.dem_list.specs.Ascending.{Pairs}
 use Rattle.dem_margin.specs.NearList.{IsNearListOf}
+use Rattle.dem_bins.specs.Bins.{GridValue, IsGridOf, most_tests}
 use Rattle.dem_step.specs.Stepper.{IsSnapshotOfRun, state_at}
-use Rattle.dem_model.specs.World.{Snap, Parcel, Home, Posted, Taken, Delivered, Course, World, is_past, is_open, enabled, turned, first_world, reached_text, turn_text, turn_rows, rows_text, world_after, text_after, rows_after, next_turn, GoesOnBy}
+use Rattle.dem_model.specs.World.{Snap, Parcel, Home, Posted, Taken, Delivered, Course, World, carried_by, is_past, is_open, enabled, turned, first_world, reached_text, turn_text, turn_rows, rows_text, world_after, text_after, rows_after, next_turn, GoesOnBy}
 use Rattle.dem_core.specs.Courses.{Running}
 use Rattle.dem_core.specs.declared.parcel.Parcel.{Parcel as Room}
 use Rattle.dem_core.specs.declared.did.Did.{Did}
@@ -22,10 +24,11 @@ use Rattle.dem_core.specs.declared.did.WorldStop.TheVariants.{WriteFault, OutOfM
 use Rattle.dem_core.specs.declared.parcel.Place.{Place}
 use Rattle.dem_core.specs.declared.parcel.Place.TheVariants as place
 
--- a world of a scene under a drift limit, and whether a failed put has stopped it
+-- a world of a scene, the drift limit and the side of the grid that makes its lists, and whether a failed put has stopped it
 pub record Turning : Type 0 where
   pub scene : SceneValue
   pub drift : ℕ
+  pub bin : ℕ
   pub world : World
   pub stopped : Bool
 
@@ -64,19 +67,20 @@ Carries s drift c place.Posted snap list = IsOut s c (seen snap) × IsSnapshotOf
 Carries s drift c place.Taken snap list = IsOut s c (seen snap) × IsSnapshotOfRun s snap
 Carries s drift c place.Delivered snap list = IsOut s c (seen snap) × IsSnapshotOfRun s snap × IsNearListOf s drift snap list
 
--- what a world keeps: its course is of this scene, under this drift limit; the room of the parcel has a body for each clump, and holds what it has to
-pub record IsKept (s : SceneValue) (drift : ℕ) (run : Running) (parcel : Room) : Type 0 where
+-- what a world keeps: its grid is one for this scene, its course is of this scene and under the grid's drift limit; the room of the parcel
+-- has a body for each clump, and holds what it has to
+pub record IsKept (s : SceneValue) (grid : GridValue) (run : Running) (parcel : Room) : Type 0 where
+  pub grid_is : IsGridOf s grid
   pub scene : run.scene ≡ s
-  pub drift_is : run.drift ≡ drift
-  pub drift_le : drift ≤ 1024
+  pub drift : run.drift ≡ grid.drift
   pub room : length parcel.snap.bodies ≡ length s.clumps
-  pub carries : Carries s drift run.course parcel.place parcel.snap parcel.list
+  pub carries : Carries s grid.drift run.course parcel.place parcel.snap parcel.list
 
 -- ---- what a turn changes
 
 -- the world after this turn, stopped or not
 abbrev pub with_turn : Turning → Turn → Bool → Turning
-with_turn old turn stopped = record { scene = old.scene; drift = old.drift; world = turned old.scene old.drift old.world turn; stopped = stopped }
+with_turn old turn stopped = record { scene = old.scene; drift = old.drift; bin = old.bin; world = turned old.scene old.drift old.world turn; stopped = stopped }
 
 -- the turns that take memory
 abbrev pub TakesMemory : Turn → Type 0
@@ -107,6 +111,18 @@ HasFaults out out_now note note_now (Ok _) = (out_now ≡ out) × (note_now ≡ 
 HasFaults out out_now note note_now (Err WriteFault) = (Rose out out_now × (note_now ≡ note)) ⊎ (Rose note note_now × (out_now ≡ out))
 HasFaults out out_now note note_now (Err OutOfMemory) = (out_now ≡ out) × (note_now ≡ note)
 
+-- how many tests a turn that the world may take counts at most: a step one for each pair in use, the making of a list what the grid needs
+abbrev pub most_made : Turning → Turn → ℕ
+most_made old Post = 0
+most_made old Take = 0
+most_made old Deliver = most_tests old.scene (record { drift = old.drift; bin = old.bin }) (centers_of old.scene (carried_by old.world.parcel).bodies)
+most_made old Collect = 0
+most_made old Step = length old.world.course.pairs
+
+-- how many tests a turn counts at most
+unfoldable pub most_of_turn : Turning → Turn → ℕ
+most_of_turn old turn = if enabled old.scene old.drift old.world turn then most_made old turn else 0
+
 -- no put failed
 abbrev pub NoPut : {A : Type 0} → Result A WorldStop → Type 0
 NoPut (Ok _) = Unit {0}
@@ -114,19 +130,19 @@ NoPut (Err WriteFault) = ⊥
 NoPut (Err OutOfMemory) = Unit {0}
 
 -- a world begins: its first frame was written, and the end row where it has no steps; or a prefix of that, and why
-abbrev pub BeginsWorld : SceneValue → ℕ → (held now : Option (List ℕ)) → (faults faults_now : ℕ) → Result Turning WorldStop → Type 0
-BeginsWorld s drift held now faults faults_now (Ok new) =
-    (new ≡ record { scene = s; drift = drift; world = first_world s; stopped = false })
+abbrev pub BeginsWorld : SceneValue → GridValue → (held now : Option (List ℕ)) → (faults faults_now : ℕ) → Result Turning WorldStop → Type 0
+BeginsWorld s grid held now faults faults_now (Ok new) =
+    (new ≡ record { scene = s; drift = grid.drift; bin = grid.bin; world = first_world s; stopped = false })
     × Appends held now (reached_text s (first_state s))
     × (faults_now ≡ faults)
-BeginsWorld s drift held now faults faults_now (Err WriteFault) = AppendsPrefix held now (reached_text s (first_state s)) × Rose faults faults_now
-BeginsWorld s drift held now faults faults_now (Err OutOfMemory) = Keeps held now × (faults_now ≡ faults)
+BeginsWorld s grid held now faults faults_now (Err WriteFault) = AppendsPrefix held now (reached_text s (first_state s)) × Rose faults faults_now
+BeginsWorld s grid held now faults faults_now (Err OutOfMemory) = Keeps held now × (faults_now ≡ faults)
 
 -- ---- what the turns of `finish` change
 
 -- the world after these turns, stopped or not
 abbrev pub with_turns : Turning → List Turn → Bool → Turning
-with_turns old turns stopped = record { scene = old.scene; drift = old.drift; world = world_after old.scene old.drift old.world turns; stopped = stopped }
+with_turns old turns stopped = record { scene = old.scene; drift = old.drift; bin = old.bin; world = world_after old.scene old.drift old.world turns; stopped = stopped }
 
 -- where these turns lead: the run has ended; or a failed put has stopped the world; or memory was refused to the next turn
 abbrev pub LeadTo : Turning → List Turn → Turning → Result Last WorldStop → Type 0
@@ -140,10 +156,16 @@ GainsAll text held now (Ok _) = Appends held now text
 GainsAll text held now (Err WriteFault) = AppendsPrefix held now text
 GainsAll text held now (Err OutOfMemory) = Appends held now text
 
+-- how many tests these turns count at most
+unfoldable pub most_of_turns : Turning → List Turn → ℕ
+most_of_turns old [] = 0
+most_of_turns old (turn ∷ turns) = most_of_turn old turn + most_of_turns (with_turn old turn false) turns
+
 -- the world goes on by itself by some turns
-pub record GoesOn (old new : Turning) (out out_now note note_now : Option (List ℕ)) (result : Result Last WorldStop) : Type 0 where
+pub record GoesOn (old new : Turning) (out out_now note note_now : Option (List ℕ)) (tests tests_now : ℕ) (result : Result Last WorldStop) : Type 0 where
   pub turns : List Turn
   pub by_itself : GoesOnBy old.scene old.drift old.world turns
   pub ends : LeadTo old turns new result
   pub written : GainsAll (text_after old.scene old.drift old.world turns) out out_now result
   pub noted : GainsAll (rows_text (rows_after old.scene old.drift old.world turns)) note note_now result
+  pub counted : tests_now ≤ tests + most_of_turns old turns

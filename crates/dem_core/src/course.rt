@@ -4,6 +4,7 @@ ghost use Rattle.std.specs.Prelude.{◌≡◌, ◌+◌, ◌<◌, ◌≤◌, true
 ghost use Rattle.dem_outside.specs.Faults.{Counts};
 ghost use Rattle.dem_outside.specs.Known.{PutAppends};
 ghost use Rattle.dem_model.specs.Step.{step_of};
+ghost use Rattle.dem_model.specs.declared.limits.TheConstants.{MAX_DRIFT};
 ghost use Rattle.dem_step.specs.Stepper.{IsSnapshotOfRun, IsListOfRun};
 ghost use Rattle.dem_model.specs.World.{may_post, may_step, stepped, step_text};
 ghost use Rattle.dem_core.specs.Courses.{IsOnCourse, HoldsRight, MayCollect, BeginsCourse, Collects};
@@ -49,7 +50,7 @@ impl<'s> Course<'s> {
         drift: u32,
         out: &mut K,
     ) -> Result<Course<'s>, WorldStop>
-        requires { drift ≤ 1024 }
+        requires { drift ≤ MAX_DRIFT }
         ensures { BeginsCourse shapes.now drift (K.held out.old) (K.held out.new) (K.faults out.old) (K.faults out.new) result }
     {
         let run = Dyn::new(alloc, shapes, drift)?;

@@ -2,6 +2,7 @@
 
 use dem_frame::WriteFault;
 use dem_model::{Last, OutOfMemory};
+use dem_output::RunFault;
 
 /// What a turn came to.
 #[derive(Clone, Copy, PartialEq, Debug)]
@@ -42,5 +43,19 @@ impl From<OutOfMemory> for WorldStop {
 
     fn from(_: OutOfMemory) -> WorldStop {
         WorldStop::OutOfMemory
+    }
+}
+
+impl From<WorldStop> for RunFault {
+    ghost use Rattle.std.specs.Prelude.{◌≡◌};
+    ghost use Rattle.dem_core.specs.Courses.{fault_of};
+
+    ghost from_gives = { λ w f. f ≡ fault_of w };
+
+    fn from(stop: WorldStop) -> RunFault {
+        match stop {
+            WorldStop::WriteFault => RunFault::WriteFault,
+            WorldStop::OutOfMemory => RunFault::OutOfMemory,
+        }
     }
 }

@@ -1,17 +1,18 @@
 //! The world of turns: a run on lists, and the exchange that brings them, on one thread.
 
 ghost use Rattle.std.specs.Prelude.{◌≡◌, ◌+◌, ◌<◌, ◌≤◌, true, false, length, slice_get, Ok, Some};
-ghost use Rattle.dem_model.specs.World.{enabled, next_turn as next_turn_of, turn_text, turn_rows, turn_tests, rows_text, is_open};
+ghost use Rattle.dem_model.specs.World.{enabled, next_turn as next_turn_of, turn_text, turn_rows, rows_text, is_open};
 ghost use Rattle.dem_core.specs.Courses.{IsOnCourse, HoldsRight};
 ghost use Rattle.dem_model.specs.declared.state.Turn.TheVariants.{Post, Take, Deliver, Collect, Step};
-ghost use Rattle.dem_core.specs.Worlds.{HasParcel, Turns, NoPut, Gains, HasFaults, BeginsWorld, GoesOn};
+ghost use Rattle.dem_bins.specs.Bins.{IsGridOf};
+ghost use Rattle.dem_core.specs.Worlds.{HasParcel, Turns, NoPut, Gains, HasFaults, BeginsWorld, GoesOn, most_of_turn};
 
 use crate::course::Course;
 use crate::did::{Did, WorldStop};
 use crate::parcel::{Parcel, Place};
+use dem_bins::Grid;
 use dem_frame::WriteFault;
 use dem_list::PairList;
-use dem_margin::build_all;
 use dem_model::{Body, Last, OutOfMemory, Steps, Turn};
 use dem_outside::Sink;
 use dem_shape::Shapes;
@@ -25,7 +26,7 @@ use std::sync::ledger::Ledger;
 pub struct World<'s> {
     alloc: Global,
     shapes: &'s Shapes<'s>,
-    drift: u32,
+    grid: &'s Grid,
     course: Course<'s>,
     parcel: Parcel,
     stopped: bool,
@@ -36,30 +37,30 @@ impl<'s> Model for World<'s> {
 
     ghost Value = { Turning };
 
-    ghost view = { λ a. record { scene = a.course.scene; drift = a.course.drift; world = record { course = a.course.course; parcel = parcel_of a.parcel.place a.parcel.snap }; stopped = a.stopped } };
+    ghost view = { λ a. record { scene = a.course.scene; drift = a.course.drift; bin = a.grid.now.bin; world = record { course = a.course.course; parcel = parcel_of a.parcel.place a.parcel.snap }; stopped = a.stopped } };
 
-    ghost invariant = { λ a. IsKept a.shapes.now a.drift a.course a.parcel };
+    ghost invariant = { λ a. IsKept a.shapes.now a.grid.now a.course a.parcel };
 }
 
 impl<'s> World<'s> {
-    /// The world of a scene at its first state, without a list, the parcel at home; `drift` is the greatest age of a list, in
-    /// steps. Writes the first frame, and the end row where the scene has no steps.
+    /// The world of a scene at its first state, without a list, the parcel at home; the grid makes its lists, and says how old one
+    /// may be, in steps. Writes the first frame, and the end row where the scene has no steps.
     pub fn new<K: Sink>(
         alloc: Global,
         shapes: &'s Shapes<'s>,
-        drift: u32,
+        grid: &'s Grid,
         out: &mut K,
     ) -> Result<World<'s>, WorldStop>
-        requires { drift ≤ 1024 }
-        ensures { BeginsWorld shapes.now drift (K.held out.old) (K.held out.new) (K.faults out.old) (K.faults out.new) result }
+        requires { IsGridOf shapes.now grid.now }
+        ensures { BeginsWorld shapes.now grid.now (K.held out.old) (K.held out.new) (K.faults out.old) (K.faults out.new) result }
     {
         let clumps = shapes.scene().clumps.len() as u32;
         let parcel = Parcel::new(alloc, clumps)?;
-        let course = Course::new(alloc, shapes, drift, out)?;
+        let course = Course::new(alloc, shapes, grid.drift(), out)?;
         Ok(World {
             alloc,
             shapes,
-            drift,
+            grid,
             course,
             parcel,
             stopped: false,
@@ -80,7 +81,7 @@ impl<'s> World<'s> {
         ensures written { Gains (turn_text self.old.scene self.old.drift self.old.world t) (K.held out.old) (K.held out.new) result }
         ensures noted { Gains (rows_text (turn_rows self.old.scene self.old.drift self.old.world t)) (N.held note.old) (N.held note.new) result }
         ensures faults { HasFaults (K.faults out.old) (K.faults out.new) (N.faults note.old) (N.faults note.new) result }
-        ensures counted { tests.new ≤ tests.old + turn_tests self.old.scene self.old.drift self.old.world t }
+        ensures counted { tests.new ≤ tests.old + most_of_turn self.old t }
     {
         if !self.may(t) {
             return Ok(Did::Idle);
@@ -88,7 +89,7 @@ impl<'s> World<'s> {
         match t {
             Turn::Post => Ok(self.post()),
             Turn::Take => Ok(self.take()),
-            Turn::Deliver => self.deliver(),
+            Turn::Deliver => self.deliver(tests),
             Turn::Collect => self.collect(note),
             Turn::Step => self.step(out, tests),
         }
@@ -103,9 +104,8 @@ impl<'s> World<'s> {
         tests: &mut Steps<L>,
     ) -> Result<Last, WorldStop>
         requires { self.old.stopped ≡ false }
-        ensures goes_on { GoesOn self.old self.new (K.held out.old) (K.held out.new) (N.held note.old) (N.held note.new) result }
+        ensures goes_on { GoesOn self.old self.new (K.held out.old) (K.held out.new) (N.held note.old) (N.held note.new) tests.old tests.new result }
         ensures faults { HasFaults (K.faults out.old) (K.faults out.new) (N.faults note.old) (N.faults note.new) result }
-        ensures counted { tests.new + self.old.world.course.tests ≤ tests.old + self.new.world.course.tests }
     {
         loop {
             if let Some(last) = self.course.last() {
@@ -199,14 +199,15 @@ impl<'s> World<'s> {
     }
 
     // Kinematics makes the list of the snapshot, in the buffer of the list before the last.
-    fn deliver(&mut self) -> Result<Did, WorldStop>
+    fn deliver<L: Ledger>(&mut self, tests: &mut Steps<L>) -> Result<Did, WorldStop>
         requires going { self.old.stopped ≡ false }
         requires may { enabled self.old.scene self.old.drift self.old.world Deliver ≡ true }
         ensures turned { Turns self.old self.new Deliver result }
         ensures no_put { NoPut result }
+        ensures counted { tests.new ≤ tests.old + most_of_turn self.old Deliver }
     {
         let buffer = std::mem::replace(&mut self.parcel.list, PairList::empty(self.alloc));
-        match build_all(self.alloc, self.shapes, &self.parcel.snap, self.drift, buffer) {
+        match self.grid.build(self.alloc, self.shapes, &self.parcel.snap, buffer, tests) {
             Ok(list) => {
                 self.parcel.list = list;
                 self.parcel.place = Place::Delivered;

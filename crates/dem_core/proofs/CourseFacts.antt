@@ -165,7 +165,7 @@ IsOnCourse-first s drift =
     let plain : plain_at s (first_state s).step ≡ Some (first_state s) = subst (λ n. plain_at s n ≡ Some (first_state s)) (sym (first-number s)) (plain_first s) in
     record {
       plain = plain;
-      list = (first-number s, refl, refl, refl, refl);
+      list = (first-number s, refl, refl, refl, refl, refl);
       end = end-at s (first_course s) 0 (sym (first-number s)) (omega arith) plain;
     }
 

@@ -4,6 +4,8 @@ use Rattle.dem_num.specs.declared.vector.Vec3.{Vec3}
 use Rattle.dem_model.specs.SceneValue.{SceneValue}
 use Rattle.dem_model.specs.Sound.{IsSound}
 use Rattle.dem_model.specs.Carry.{kept_of, carried}
+use Rattle.dem_model.specs.Plain.{first_state}
+use Rattle.dem_model.specs.Frames.{last_text, taken_text}
 use Rattle.dem_model.specs.Step.{held_at, step_of}
 use Rattle.dem_model.specs.declared.state.End.{End}
 use Rattle.dem_model.specs.declared.state.Last.{Last}
@@ -12,10 +14,10 @@ use Rattle.dem_model.specs.declared.state.Pair.{Pair}
 use Rattle.dem_model.specs.declared.state.State.{State}
 use Rattle.dem_list.specs.Ascending.{Pairs}
 use Rattle.dem_step.specs.Contacts.{AreContacts}
-use Rattle.dem_step.specs.Stepper.{Stepper, IsListOfRun, TakesList, MakesStep, IsInTime}
-use Rattle.dem_model.specs.World.{Course, is_open, is_past, may_post, may_step, done_at, after_step, stepped, with_list}
+use Rattle.dem_step.specs.Stepper.{Stepper, IsListOfRun, Begins, TakesList, MakesStep, IsInTime}
+use Rattle.dem_model.specs.World.{Course, is_open, is_past, may_post, may_step, done_at, after_step, stepped, with_list, first_course, reached_text, step_text, row_with}
 use Rattle.dem_core.specs.Courses.{Running, IsOnCourse, MayCollect, course_of, IsCounted}
-use Rattle.dem_core.proofs.CourseFacts.{open-none, in-time, may-goes_on, IsOnCourse-stepped, IsOnCourse-with_list, list-near, IsCounted-stepped, entries-back}
+use Rattle.dem_core.proofs.CourseFacts.{open-none, in-time, may-goes_on, IsOnCourse-first, IsOnCourse-stepped, IsOnCourse-with_list, list-near, IsCounted-stepped, entries-back}
 
 -- ---- when a snapshot may be posted
 
@@ -99,3 +101,75 @@ pub tests-fit : (s : SceneValue) (drift : ℕ) (c : Course) → IsSound s → Is
 tests-fit s drift c sound counted may few =
     let g = may-goes_on s drift c may in
     omega (arith, counted g.no_end, g.left, sound.steps)
+
+-- ---- what contracts see of it
+
+same-running : (s s' : SceneValue) (d d' : ℕ) (c c' : Course) → s ≡ s' → d ≡ d' → c ≡ c' → (let r : Running = record { scene = s; drift = d; course = c } in r) ≡ record { scene = s'; drift = d'; course = c' }
+same-running s s' d d' c c' a b e = cc
+
+-- after a step
+pub stepped-view : (old new : Stepper) (taken_at tests : ℕ) (last : Option Last) (c : Course) (r : Running) → record { scene = old.scene; drift = old.drift; course = course_of old taken_at tests last } ≡ r
+    → new.scene ≡ old.scene → new.drift ≡ old.drift → c ≡ stepped old.scene (course_of old taken_at tests last)
+    → (let seen : Running = record { scene = new.scene; drift = new.drift; course = c } in seen) ≡ record { scene = r.scene; drift = r.drift; course = stepped r.scene r.course }
+stepped-view old new taken_at tests last c r view scene drift is =
+    same-running _ _ _ _ _ _ scene drift is ∙ ap (λ (x : Running). record { scene = x.scene; drift = x.drift; course = stepped x.scene x.course }) view
+
+-- after a list was taken
+pub listed-view : (old new : Stepper) (taken_at tests from : ℕ) (last : Option Last) (pairs : List Pair) (c : Course) (r : Running) → record { scene = old.scene; drift = old.drift; course = course_of old taken_at tests last } ≡ r
+    → new.scene ≡ old.scene → new.drift ≡ old.drift → c ≡ with_list (course_of old taken_at tests last) from pairs
+    → (let seen : Running = record { scene = new.scene; drift = new.drift; course = c } in seen) ≡ record { scene = r.scene; drift = r.drift; course = with_list r.course from pairs }
+listed-view old new taken_at tests from last pairs c r view scene drift is =
+    same-running _ _ _ _ _ _ scene drift is ∙ ap (λ (x : Running). record { scene = x.scene; drift = x.drift; course = with_list x.course from pairs }) view
+
+-- after a refusal
+pub kept-view : (old new : Stepper) (taken_at tests : ℕ) (last : Option Last) (r : Running) → record { scene = old.scene; drift = old.drift; course = course_of old taken_at tests last } ≡ r → new ≡ old
+    → (let seen : Running = record { scene = new.scene; drift = new.drift; course = course_of new taken_at tests last } in seen) ≡ r
+kept-view old new taken_at tests last r view same =
+    ap (λ (x : Stepper). record { scene = x.scene; drift = x.drift; course = course_of x taken_at tests last }) same ∙ view
+
+-- what a step writes
+pub step-writes : (old new : Stepper) (taken_at tests : ℕ) (last : Option Last) (r : Running) → record { scene = old.scene; drift = old.drift; course = course_of old taken_at tests last } ≡ r → MakesStep old new
+    → reached_text new.scene new.state ≡ step_text r.scene (step_of r.scene r.course.state)
+unfolding step_text
+step-writes old new taken_at tests last r view m =
+    ap (λ s. reached_text s new.state) m.scene
+    ∙ sym (ap (step_text old.scene) m.step)
+    ∙ ap (λ (x : Running). step_text x.scene (step_of x.scene x.course.state)) view
+
+pub end-writes : (old : Stepper) (taken_at tests : ℕ) (last : Option Last) (r : Running) (e : End) → record { scene = old.scene; drift = old.drift; course = course_of old taken_at tests last } ≡ r → step_of old.scene old.state ≡ Err e
+    → last_text (Passed e) ≡ step_text r.scene (step_of r.scene r.course.state)
+unfolding step_text
+end-writes old taken_at tests last r e view passed =
+    sym (ap (step_text old.scene) passed) ∙ ap (λ (x : Running). step_text x.scene (step_of x.scene x.course.state)) view
+
+-- the row of a list
+pub row-writes : (old : Stepper) (taken_at tests at count : ℕ) (list : Pairs) (last : Option Last) (r : Running) → record { scene = old.scene; drift = old.drift; course = course_of old taken_at tests last } ≡ r → at ≡ old.state.step → count ≡ length list.pairs
+    → taken_text (record { from = list.from; at = at; pairs = count }) ≡ taken_text (row_with r.course list.from list.pairs)
+unfolding row_with
+row-writes old taken_at tests at count list last r view here size =
+    ap₂ (λ a n. taken_text (record { from = list.from; at = a; pairs = n })) here size
+    ∙ ap (λ (x : Running). taken_text (record { from = list.from; at = x.course.state.step; pairs = length list.pairs })) view
+
+-- ---- a run that begins
+
+-- nothing is held at the start
+pub begins-held : (s : SceneValue) (drift : ℕ) (run : Stepper) → Begins s drift run → kept_of run.contacts.list.pairs run.contacts.entries ≡ run.state.held
+unfolding kept_of first_state
+begins-held s drift run b = ap₂ kept_of b.pairs b.entries ∙ sym (ap (λ (st : State). st.held) b.state)
+
+pub begins-course : (s : SceneValue) (drift : ℕ) (run : Stepper) (told : Option Last) → Begins s drift run → told ≡ done_at s 0 → course_of run 0 0 told ≡ first_course s
+unfolding first_course
+begins-course s drift run told b end = same-course _ _ _ _ _ _ _ _ 0 0 0 0 _ _ b.state b.from b.pairs b.entries refl refl end
+
+pub begins-kept : (s : SceneValue) (drift : ℕ) (run : Stepper) (told : Option Last) → Begins s drift run → told ≡ done_at s 0
+    → IsOnCourse run.scene run.drift (course_of run 0 0 told) × IsCounted (course_of run 0 0 told)
+begins-kept s drift run told b end =
+    let on : IsOnCourse run.scene run.drift (first_course s) = subst (λ x. IsOnCourse x run.drift (first_course s)) (sym b.scene) (IsOnCourse-first s run.drift) in
+    (subst (IsOnCourse run.scene run.drift) (sym (begins-course s drift run told b end)) on, λ none. omega arith)
+
+pub begins-view : (s : SceneValue) (drift : ℕ) (run : Stepper) (told : Option Last) → Begins s drift run → told ≡ done_at s 0
+    → (let seen : Running = record { scene = run.scene; drift = run.drift; course = course_of run 0 0 told } in seen) ≡ record { scene = s; drift = drift; course = first_course s }
+begins-view s drift run told b end = same-running _ _ _ _ _ _ b.scene b.drift_is (begins-course s drift run told b end)
+
+pub begins-writes : (s : SceneValue) (drift : ℕ) (run : Stepper) → Begins s drift run → reached_text run.scene run.state ≡ reached_text s (first_state s)
+begins-writes s drift run b = ap₂ reached_text b.scene b.state

@@ -18,7 +18,7 @@ use Rattle.dem_model.specs.declared.state.State.{State}
 use Rattle.dem_list.specs.Ascending.{Pairs}
 use Rattle.dem_step.specs.Contacts.{IsHeldIn}
 use Rattle.dem_step.specs.Stepper.{Stepper}
-use Rattle.dem_model.specs.World.{Course, is_open, is_past, first_course, with_list, row_with, reached_text}
+use Rattle.dem_model.specs.World.{Course, is_open, is_past, done_at, first_course, with_list, row_with, reached_text}
 use Rattle.dem_output.specs.declared.running.RunFault.{RunFault}
 use Rattle.dem_output.specs.declared.running.RunFault.TheVariants as faults
 use Rattle.dem_core.specs.declared.did.WorldStop.{WorldStop}
@@ -49,9 +49,9 @@ IsCounted c = c.last ≡ None → c.tests ≤ 2 ^ 32 * c.state.step
 -- ---- what holds of each
 
 -- the list in use has the near pairs of a state of the plain run, and is at most one step older than the drift limit; it was taken between that state and now.
--- Without a list no step was made
+-- Without a list no step was begun
 abbrev pub HasList : SceneValue → ℕ → Course → Option ℕ → Type 0
-HasList s drift c None = (c.state.step ≡ 0) × (c.pairs ≡ []) × (c.entries ≡ []) × (c.taken_at ≡ 0) × (c.tests ≡ 0)
+HasList s drift c None = (c.state.step ≡ 0) × (c.pairs ≡ []) × (c.entries ≡ []) × (c.taken_at ≡ 0) × (c.tests ≡ 0) × (c.last ≡ done_at s 0)
 HasList s drift c (Some from) =
     IsSomeAnd (plain_at s from) (λ st. c.pairs ≡ near_of s drift (centers_of s st.bodies)) × (from ≤ c.taken_at) × (c.taken_at ≤ c.state.step) × (c.state.step ≤ from + drift + 1) × (0 < s.steps)
 

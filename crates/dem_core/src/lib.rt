@@ -10,9 +10,11 @@
 mod course;
 mod did;
 mod frame;
+mod law;
 mod parcel;
 mod world;
 
 pub use course::Course;
 pub use did::{Did, WorldStop};
+pub use law::plays;
 pub use world::World;

@@ -6,3 +6,5 @@ pub mod RunningFacts
 pub mod TakenFacts
 pub mod WorldFacts
 pub mod SpellFacts
+pub mod TurningFacts
+pub mod FinishFacts

@@ -55,7 +55,7 @@ ends-none s a (suc k) st h =
 
 -- ---- how the run ends
 
-last-here : (s : SceneValue) (n k : ℕ) (st : State) → plain_at s n ≡ Some st → n + k ≡ s.steps → last_of s ≡ last_from s k st
+pub last-here : (s : SceneValue) (n k : ℕ) (st : State) → plain_at s n ≡ Some st → n + k ≡ s.steps → last_of s ≡ last_from s k st
 unfolding last_of
 last-here s n k st h left =
     ap (λ m. last_among s.steps (filter_map (end_at s) (range_with_len 0 m))) (sym left)
@@ -124,5 +124,5 @@ output-done s st here step = output-cut s s.steps 0 st here step (omega arith)
 -- and where the next step passes a limit
 pub output-passed : (s : SceneValue) (n : ℕ) (st : State) (e : End) → plain_at s n ≡ Some st → st.step ≡ n → n < s.steps → step_of s st ≡ Err e → output_of s ≡ frames_to s n ++ last_text (last_of s)
 output-passed s n st e here step lt passed =
-    let none : frames_from s (suc (s.steps - (n + 1))) st ≡ [] = unfold frames_from in ap (by_step (λ (next : State). due_text s next ++ frames_from s (s.steps - (n + 1)) next) (λ _. [])) passed in
+    let none : frames_from s (suc (s.steps - (n + 1))) st ≡ [] = unfold frames_from in ap (by_step _ (λ _. [])) passed in
     output-cut s n (suc (s.steps - (n + 1))) st here step (omega arith) ∙ ap (λ l. frames_to s n ++ (l ++ last_text (last_of s))) none

@@ -59,12 +59,12 @@ unfolding along
 along-append s drift o [] ys = refl
 along-append s drift o (x ∷ xs) ys = along-append s drift (option_and_then (goes s drift x) o) xs ys
 
-after-append : (s : SceneValue) (drift : ℕ) (w : World) (xs ys : List Turn) → world_after s drift w (xs ++ ys) ≡ world_after s drift (world_after s drift w xs) ys
+pub after-append : (s : SceneValue) (drift : ℕ) (w : World) (xs ys : List Turn) → world_after s drift w (xs ++ ys) ≡ world_after s drift (world_after s drift w xs) ys
 unfolding world_after
 after-append s drift w [] ys = refl
 after-append s drift w (x ∷ xs) ys = after-append s drift (turned s drift w x) xs ys
 
-rows-append : (s : SceneValue) (drift : ℕ) (w : World) (xs ys : List Turn) → rows_after s drift w (xs ++ ys) ≡ rows_after s drift w xs ++ rows_after s drift (world_after s drift w xs) ys
+pub rows-append : (s : SceneValue) (drift : ℕ) (w : World) (xs ys : List Turn) → rows_after s drift w (xs ++ ys) ≡ rows_after s drift w xs ++ rows_after s drift (world_after s drift w xs) ys
 unfolding rows_after world_after
 rows-append s drift w [] ys = refl
 rows-append s drift w (x ∷ xs) ys =
@@ -140,16 +140,17 @@ record IsStepped (s : SceneValue) (drift : ℕ) (w : World) (n : ℕ) (from : �
   none : made_rows s drift w Step ≡ []
 
 is-stepped : (s : SceneValue) (drift : ℕ) (w : World) (n : ℕ) (from : ℕ) (parcel : Parcel) → Stands s drift w n (Some from) parcel → n ≤ from + drift → IsStepped s drift w n from parcel
+unfolding made stepped made_rows
 is-stepped s drift w n from parcel h young =
     let on = step-on s drift w n from parcel h young in
     let more = one-more s w.course (step_of s w.course.state) refl in
     record {
       on = on;
       kept = Kept-made s drift w Step h.kept on;
-      begun_is = unfold made in unfold stepped in more.begun ∙ ap (λ m. m + 1) h.at;
-      from_is = unfold made in unfold stepped in more.from ∙ h.from_is;
-      parcel_is = unfold made in h.parcel_is;
-      none = unfold made_rows in refl;
+      begun_is = more.begun ∙ ap (λ m. m + 1) h.at;
+      from_is = more.from ∙ h.from_is;
+      parcel_is = h.parcel_is;
+      none = refl;
     }
 
 -- a course that has begun fewer steps than the plain run is open
@@ -249,23 +250,45 @@ ends-turn s drift w turn turns rows on e = record { world = e.world; gets = gets
 ends-turns : (s : SceneValue) (drift : ℕ) (w : World) (xs ys : List Turn) (n : ℕ) (from : Option ℕ) (parcel : Parcel) (rows : List TakenRow) (a : Arrives s drift w xs n from parcel) → Ends s drift a.world ys rows → Ends s drift w (xs ++ ys) rows
 ends-turns s drift w xs ys n from parcel rows a e = record { world = e.world; gets = gets-turns s drift w a.world e.world xs ys rows a.gets e.gets; ended = e.ended }
 
+-- the turns of the exchange, each where the parcel is there
+post-stands : (s : SceneValue) (drift : ℕ) (w : World) (n : ℕ) (from : Option ℕ) → Stands s drift w n from Home → enabled s drift w Post ≡ true → Stands s drift (made s drift w Post) n from (Posted (snap_of w.course.state))
+unfolding made
+post-stands s drift w n from h on = moved s drift w n from Home (Posted (snap_of w.course.state)) Post h on refl
+
+take-on : (s : SceneValue) (drift : ℕ) (w : World) (n : ℕ) (from : Option ℕ) (snap : Snap) → Stands s drift w n from (Posted snap) → enabled s drift w Take ≡ true
+unfolding enabled is_posted
+take-on s drift w n from snap h = rw (none-open w.course h.going, h.parcel_is) refl
+
+take-stands : (s : SceneValue) (drift : ℕ) (w : World) (n : ℕ) (from : Option ℕ) (snap : Snap) → Stands s drift w n from (Posted snap) → Stands s drift (made s drift w Take) n from (Taken snap)
+unfolding made carried_by
+take-stands s drift w n from snap h =
+    moved s drift w n from (Posted snap) (Taken snap) Take h (take-on s drift w n from snap h) (ap (λ p. with_parcel w (Taken (carried_by p))) h.parcel_is)
+
+deliver-on : (s : SceneValue) (drift : ℕ) (w : World) (n : ℕ) (from : Option ℕ) (snap : Snap) → Stands s drift w n from (Taken snap) → enabled s drift w Deliver ≡ true
+unfolding enabled is_taken
+deliver-on s drift w n from snap h = rw (none-open w.course h.going, h.parcel_is) refl
+
+deliver-stands : (s : SceneValue) (drift : ℕ) (w : World) (n : ℕ) (from : Option ℕ) (snap : Snap) → Stands s drift w n from (Taken snap) → Stands s drift (made s drift w Deliver) n from (Delivered snap)
+unfolding made carried_by
+deliver-stands s drift w n from snap h =
+    moved s drift w n from (Taken snap) (Delivered snap) Deliver h (deliver-on s drift w n from snap h) (ap (λ p. with_parcel w (Delivered (carried_by p))) h.parcel_is)
+
 -- with the parcel at home: it is posted, taken and delivered
 exchange : (s : SceneValue) (drift : ℕ) (w : World) (n : ℕ) (from : Option ℕ) (turns : List Turn) (rows : List TakenRow) → Stands s drift w n from Home → is_past from n ≡ true
     → ((v : World) → Stands s drift v n from (Delivered (snap_of w.course.state)) → Ends s drift v turns rows) → Ends s drift w (Post ∷ Take ∷ Deliver ∷ turns) rows
-unfolding made made_rows is_posted is_taken carried_by
+unfolding made_rows
 exchange s drift w n from turns rows h past rest =
-    let on1 = parcel-home s drift w n from h past in
-    let h1 : Stands s drift (made s drift w Post) n from (Posted (snap_of w.course.state)) = moved s drift w n from Home (Posted (snap_of w.course.state)) Post h on1 refl in
-    let on2 : enabled s drift (made s drift w Post) Take ≡ true = unfold enabled in rw (none-open (made s drift w Post).course h1.going, h1.parcel_is) refl in
-    let h2 : Stands s drift (made s drift (made s drift w Post) Take) n from (Taken (snap_of w.course.state)) =
-    moved s drift (made s drift w Post) n from (Posted (snap_of w.course.state)) (Taken (snap_of w.course.state)) Take h1 on2 (ap (λ p. with_parcel (made s drift w Post) (Taken (carried_by p))) h1.parcel_is) in
-    let on3 : enabled s drift (made s drift (made s drift w Post) Take) Deliver ≡ true = unfold enabled in rw (none-open (made s drift (made s drift w Post) Take).course h2.going, h2.parcel_is) refl in
-    let h3 : Stands s drift (made s drift (made s drift (made s drift w Post) Take) Deliver) n from (Delivered (snap_of w.course.state)) =
-    moved s drift (made s drift (made s drift w Post) Take) n from (Taken (snap_of w.course.state)) (Delivered (snap_of w.course.state)) Deliver h2 on3
-    (ap (λ p. with_parcel (made s drift (made s drift w Post) Take) (Delivered (carried_by p))) h2.parcel_is) in
-    ends-turn s drift w Post (Take ∷ Deliver ∷ turns) rows on1
-    (ends-turn s drift (made s drift w Post) Take (Deliver ∷ turns) rows on2
-    (ends-turn s drift (made s drift (made s drift w Post) Take) Deliver turns rows on3 (rest (made s drift (made s drift (made s drift w Post) Take) Deliver) h3)))
+    let snap : Snap = snap_of w.course.state in
+    let w1 : World = made s drift w Post in
+    let w2 : World = made s drift (made s drift w Post) Take in
+    let on = parcel-home s drift w n from h past in
+    let h1 = post-stands s drift w n from h on in
+    let h2 = take-stands s drift (made s drift w Post) n from (snap_of w.course.state) h1 in
+    let h3 = deliver-stands s drift (made s drift (made s drift w Post) Take) n from (snap_of w.course.state) h2 in
+    ends-turn s drift w Post (Take ∷ Deliver ∷ turns) rows on
+    (ends-turn s drift (made s drift w Post) Take (Deliver ∷ turns) rows (take-on s drift (made s drift w Post) n from (snap_of w.course.state) h1)
+    (ends-turn s drift (made s drift (made s drift w Post) Take) Deliver turns rows (deliver-on s drift (made s drift (made s drift w Post) Take) n from (snap_of w.course.state) h2)
+    (rest (made s drift (made s drift (made s drift w Post) Take) Deliver) h3)))
 
 -- the list is taken into use
 record IsCollected (s : SceneValue) (drift : ℕ) (w : World) (n : ℕ) (snap : Snap) : Type 0 where
@@ -309,11 +332,12 @@ serves-later : (drift : ℕ) (from : Option ℕ) (now m until : ℕ) → Serves 
 serves-later drift None now m until h le = omega (arith, h)
 serves-later drift (Some from) now m until h le = h
 
-same-row : (row : TakenRow) (n : ℕ) → row.pairs ≡ n → (let r : TakenRow = record { from = row.from; at = row.at; pairs = n } in r) ≡ row
-same-row row n is = cc
-
 size-there : (s : SceneValue) (drift : ℕ) (row : TakenRow) (st : State) → plain_at s row.from ≡ Some st → IsSomeAnd (plain_at s row.from) (λ x. row.pairs ≡ length (list_of s drift (snap_of x))) → row.pairs ≡ length (list_of s drift (snap_of st))
 size-there s drift row st here h = subst (λ o. IsSomeAnd o (λ x. row.pairs ≡ length (list_of s drift (snap_of x)))) here h
+
+snap-step : (st : State) → (snap_of st).step ≡ st.step
+unfolding snap_of
+snap-step st = refl
 
 rows-end : (s : SceneValue) (drift : ℕ) (rows : List TakenRow) (w : World) (n : ℕ) (from : Option ℕ) → Stands s drift w n from Home → AreRows s drift rows (begun (last_of s)) → AllByRecursion (λ (r : TakenRow). r.at < begun (last_of s)) rows
     → MayCome (begun (last_of s)) from n rows → Serves drift from n (used_until rows (begun (last_of s))) → Ends s drift w (spell_from n rows (begun (last_of s))) rows
@@ -335,7 +359,7 @@ rows-end s drift (row ∷ rows) w n from h each in_time comes serves =
       let b = steps-arrive s drift (row.at - row.from) v row.from from (Delivered (snap_of a.world.course.state)) stands (subst (Serves drift from row.from) (sym at2) (serves-later drift from n row.from row.at serves comes.1)) (omega (arith, each.0.past, in_time.0)) in
       let ready : Stands s drift b.world row.at from (Delivered (snap_of a.world.course.state)) = subst (λ m. Stands s drift b.world m from (Delivered (snap_of a.world.course.state))) at2 b.stands in
       let c = is-collected s drift b.world row.at from (snap_of a.world.course.state) ready in
-      let from_is : (snap_of a.world.course.state).step ≡ row.from = unfold snap_of in there.at in
+      let from_is : (snap_of a.world.course.state).step ≡ row.from = snap-step a.world.course.state ∙ there.at in
       let stands' : Stands s drift (made s drift b.world Collect) row.at (Some row.from) Home = subst (λ m. Stands s drift (made s drift b.world Collect) row.at (Some m) Home) from_is c.stands in
       let rest = rows-end s drift rows (made s drift b.world Collect) row.at (Some row.from) stands' each.1 in_time.1 (comes-next (begun (last_of s)) row rows each.0.followed in_time.0) each.0.used in
       let noted : made_rows s drift b.world Collect ≡ row ∷ [] =
@@ -398,13 +422,17 @@ first-closed : (s : SceneValue) → s.steps ≡ 0 → done_at s 0 ≡ Some (Done
 unfolding done_at
 first-closed s none = ap (λ b. if b then Some (Done 0) else None) (eq-eqb 0 s.steps (sym none))
 
+no-spell : (last : Last) → last ≡ Done 0 → spell [] last ≡ []
+unfolding spell spell_from steps begun
+no-spell last is = ap (λ l. replicate (begun l - 0) Step) is
+
 -- without rows a scene has no steps, and the run has ended at its start
 no-rows : (s : SceneValue) (drift : ℕ) → s.steps ≡ 0 → Ends s drift (first_world s) (spell [] (last_of s)) []
 no-rows s drift none =
     let k = Kept-first s drift in
     let last : (first_world s).course.last ≡ Some (Done 0) = unfold first_world in unfold first_course in first-closed s none in
     let whole : Done 0 ≡ last_of s = (text-ended s drift (first_world s).course (Done 0) k.course last).1 in
-    let turns : spell [] (last_of s) ≡ [] = unfold spell in unfold spell_from in unfold steps in ap (λ l. replicate (begun l - 0) Step) (sym whole) in
+    let turns : spell [] (last_of s) ≡ [] = no-spell (last_of s) (sym whole) in
     subst (λ l. Ends s drift (first_world s) l []) (sym turns) (record { world = first_world s; gets = gets-none s drift (first_world s); ended = last ∙ ap Some whole })
 
 cons-none : (row : TakenRow) (rows : List TakenRow) → row ∷ rows ≡ [] → ⊥

@@ -1,6 +1,6 @@
 -- The rows of the lists that a run has taken into use: after each call, and at its end.
 use Rattle.std.proofs.Common.{◌≡◌, ◌≢◌, ℕ, zero, suc, ◌+◌, ◌-◌, ◌*◌, ◌<◌, ◌≤◌, Bool, true, false, List, [], ◌∷◌, ◌++◌, length, Option, None, Some, Result, Ok, Err, IsSomeAnd, nat_eq, refl, sym, ap, ap₂, ◌∙◌, subst, arith, append_assoc, append-nil, mul-suc, mul-zero, inl, inr}
-use Rattle.std.specs.Prelude.{if◌then◌else◌}
+use Rattle.std.specs.Prelude.{◌==◌, if◌then◌else◌}
 use Rattle.std.specs.List.{AllByRecursion}
 use Rattle.std.proofs.lemmas.Bool.{ltb-true, eq-eqb, ne_eqb, cases_lt}
 use Rattle.std.proofs.lemmas.Option.{none-some}
@@ -65,7 +65,7 @@ rows-more : (s : SceneValue) (drift : ℕ) (rows : List TakenRow) (last r : Take
     → AreRows s drift ((rows ++ last ∷ []) ++ r ∷ []) r.at
 unfolding used_until
 rows-more s drift [] last r h newer since one =
-    (record { past = h.0.past; young = h.0.young; size = h.0.size; followed = (newer, since); used = h.0.used }, one, tt)
+    (record { past = h.0.past; young = h.0.young; size = h.0.size; followed = (newer, since); used = h.0.used }, (one, tt))
 rows-more s drift (q ∷ rows) last r h newer since one = (
   record {
     past = h.0.past;

@@ -60,6 +60,10 @@ parcel_of place.Posted snap = Posted (seen snap)
 parcel_of place.Taken snap = Taken (seen snap)
 parcel_of place.Delivered snap = Delivered (seen snap)
 
+-- a world, from what is stored of it
+abbrev pub world_of : Running → ℕ → Place → Snapshot → Bool → Turning
+world_of run bin place snap stopped = record { scene = run.scene; drift = run.drift; bin = bin; world = record { course = run.course; parcel = parcel_of place snap }; stopped = stopped }
+
 -- what the room of a parcel holds: a snapshot of the run, and once it is delivered its near list
 abbrev pub Carries : SceneValue → ℕ → Course → Place → Snapshot → Pairs → Type 0
 Carries s drift c place.Home snap list = Unit {0}
@@ -105,6 +109,12 @@ Gains text held now (Ok _) = Appends held now text
 Gains text held now (Err WriteFault) = AppendsPrefix held now text
 Gains text held now (Err OutOfMemory) = Keeps held now
 
+-- the count of a sink rose where a put failed, and else it stayed
+abbrev pub HasCount : {A : Type 0} → (faults faults_now : ℕ) → Result A WorldStop → Type 0
+HasCount faults faults_now (Ok _) = faults_now ≡ faults
+HasCount faults faults_now (Err WriteFault) = Rose faults faults_now
+HasCount faults faults_now (Err OutOfMemory) = faults_now ≡ faults
+
 -- the count of one of the sinks rose where a put failed; else neither changed
 abbrev pub HasFaults : {A : Type 0} → (out out_now note note_now : ℕ) → Result A WorldStop → Type 0
 HasFaults out out_now note note_now (Ok _) = (out_now ≡ out) × (note_now ≡ note)
@@ -112,16 +122,16 @@ HasFaults out out_now note note_now (Err WriteFault) = (Rose out out_now × (not
 HasFaults out out_now note note_now (Err OutOfMemory) = (out_now ≡ out) × (note_now ≡ note)
 
 -- how many tests a turn that the world may take counts at most: a step one for each pair in use, the making of a list what the grid needs
-abbrev pub most_made : Turning → Turn → ℕ
-most_made old Post = 0
-most_made old Take = 0
-most_made old Deliver = most_tests old.scene (record { drift = old.drift; bin = old.bin }) (centers_of old.scene (carried_by old.world.parcel).bodies)
-most_made old Collect = 0
-most_made old Step = length old.world.course.pairs
+abbrev pub most_made : SceneValue → GridValue → World → Turn → ℕ
+most_made s grid w Post = 0
+most_made s grid w Take = 0
+most_made s grid w Deliver = most_tests s grid (centers_of s (carried_by w.parcel).bodies)
+most_made s grid w Collect = 0
+most_made s grid w Step = length w.course.pairs
 
 -- how many tests a turn counts at most
 unfoldable pub most_of_turn : Turning → Turn → ℕ
-most_of_turn old turn = if enabled old.scene old.drift old.world turn then most_made old turn else 0
+most_of_turn old turn = if enabled old.scene old.drift old.world turn then most_made old.scene (record { drift = old.drift; bin = old.bin }) old.world turn else 0
 
 -- no put failed
 abbrev pub NoPut : {A : Type 0} → Result A WorldStop → Type 0
@@ -161,6 +171,12 @@ unfoldable pub most_of_turns : Turning → List Turn → ℕ
 most_of_turns old [] = 0
 most_of_turns old (turn ∷ turns) = most_of_turn old turn + most_of_turns (with_turn old turn false) turns
 
+-- how many tests the turn to which memory was refused counts at most
+abbrev pub most_of_refused : Turning → Result Last WorldStop → ℕ
+most_of_refused new (Ok last) = 0
+most_of_refused new (Err WriteFault) = 0
+most_of_refused new (Err OutOfMemory) = most_of_turn new (next_turn new.scene new.drift new.world)
+
 -- the world goes on by itself by some turns
 pub record GoesOn (old new : Turning) (out out_now note note_now : Option (List ℕ)) (tests tests_now : ℕ) (result : Result Last WorldStop) : Type 0 where
   pub turns : List Turn
@@ -168,4 +184,4 @@ pub record GoesOn (old new : Turning) (out out_now note note_now : Option (List 
   pub ends : LeadTo old turns new result
   pub written : GainsAll (text_after old.scene old.drift old.world turns) out out_now result
   pub noted : GainsAll (rows_text (rows_after old.scene old.drift old.world turns)) note note_now result
-  pub counted : tests_now ≤ tests + most_of_turns old turns
+  pub counted : tests_now ≤ tests + most_of_turns old turns + most_of_refused new result

@@ -6,7 +6,7 @@ ghost use Rattle.dem_outside.specs.Known.{PutAppends};
 ghost use Rattle.dem_model.specs.Step.{step_of};
 ghost use Rattle.dem_model.specs.declared.limits.TheConstants.{MAX_DRIFT};
 ghost use Rattle.dem_step.specs.Stepper.{IsSnapshotOfRun, IsListOfRun};
-ghost use Rattle.dem_model.specs.World.{may_post, may_step, stepped, step_text};
+ghost use Rattle.dem_model.specs.World.{is_open as is_open_of, may_post, may_step, stepped, step_text};
 ghost use Rattle.dem_core.specs.Courses.{IsOnCourse, HoldsRight, MayCollect, BeginsCourse, Collects};
 
 use crate::did::WorldStop;
@@ -156,6 +156,14 @@ impl<'s> Course<'s> {
     {
         let _contacts = self.run.contacts();
         self.run.now()
+    }
+
+    /// Whether the run goes on.
+    #[tactic(auto, unfolding(dem_model::specs::World::is_open))]
+    pub fn is_open(&self) -> bool
+        ensures { result ≡ is_open_of self.now.course }
+    {
+        self.last.is_none()
     }
 
     /// How the run has ended, where it has.

@@ -2,7 +2,10 @@
 
 ghost use Rattle.std.specs.Prelude.{◌≡◌, [], IfOk, replicate};
 ghost use Rattle.dem_model.specs.Centers.{still_body};
+ghost use Rattle.dem_model.specs.World.{is_home as is_home_of, is_posted as is_posted_of, is_taken as is_taken_of, is_delivered as is_delivered_of};
+ghost use Rattle.dem_shape.specs.declared.snapshot.Snapshot.{Snapshot};
 ghost use Rattle.dem_core.specs.declared.parcel.Place.TheVariants.{Home};
+ghost use Rattle.dem_core.specs.Worlds.{parcel_of};
 
 use dem_list::PairList;
 use dem_model::OutOfMemory;
@@ -20,6 +23,60 @@ pub(crate) enum Place {
     Taken,
     /// It has the list of its snapshot.
     Delivered,
+}
+
+impl Place {
+    /// Whether the parcel is at home.
+    #[tactic(auto, unfolding(dem_model::specs::World::is_home, crate::specs::Worlds::parcel_of))]
+    pub(crate) fn is_home(self) -> bool
+        ensures { (snap : Snapshot) → result ≡ is_home_of (parcel_of self snap) }
+    {
+        match self {
+            Place::Home => true,
+            Place::Posted => false,
+            Place::Taken => false,
+            Place::Delivered => false,
+        }
+    }
+
+    /// Whether the parcel was posted, and not taken yet.
+    #[tactic(auto, unfolding(dem_model::specs::World::is_posted, crate::specs::Worlds::parcel_of))]
+    pub(crate) fn is_posted(self) -> bool
+        ensures { (snap : Snapshot) → result ≡ is_posted_of (parcel_of self snap) }
+    {
+        match self {
+            Place::Home => false,
+            Place::Posted => true,
+            Place::Taken => false,
+            Place::Delivered => false,
+        }
+    }
+
+    /// Whether kinematics has the parcel.
+    #[tactic(auto, unfolding(dem_model::specs::World::is_taken, crate::specs::Worlds::parcel_of))]
+    pub(crate) fn is_taken(self) -> bool
+        ensures { (snap : Snapshot) → result ≡ is_taken_of (parcel_of self snap) }
+    {
+        match self {
+            Place::Home => false,
+            Place::Posted => false,
+            Place::Taken => true,
+            Place::Delivered => false,
+        }
+    }
+
+    /// Whether the parcel was delivered, and not collected yet.
+    #[tactic(auto, unfolding(dem_model::specs::World::is_delivered, crate::specs::Worlds::parcel_of))]
+    pub(crate) fn is_delivered(self) -> bool
+        ensures { (snap : Snapshot) → result ≡ is_delivered_of (parcel_of self snap) }
+    {
+        match self {
+            Place::Home => false,
+            Place::Posted => false,
+            Place::Taken => false,
+            Place::Delivered => true,
+        }
+    }
 }
 
 /// A snapshot, and a list or the buffer of one.

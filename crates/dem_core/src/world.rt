@@ -5,7 +5,7 @@ ghost use Rattle.dem_model.specs.World.{enabled, next_turn as next_turn_of, turn
 ghost use Rattle.dem_core.specs.Courses.{IsOnCourse, HoldsRight};
 ghost use Rattle.dem_model.specs.declared.state.Turn.TheVariants.{Post, Take, Deliver, Collect, Step};
 ghost use Rattle.dem_bins.specs.Bins.{IsGridOf};
-ghost use Rattle.dem_core.specs.Worlds.{HasParcel, Turns, NoPut, Gains, HasFaults, BeginsWorld, GoesOn, most_of_turn};
+ghost use Rattle.dem_core.specs.Worlds.{HasParcel, Turns, NoPut, Gains, HasCount, HasFaults, BeginsWorld, GoesOn, most_of_turn};
 
 use crate::course::Course;
 use crate::did::{Did, WorldStop};
@@ -33,11 +33,11 @@ pub struct World<'s> {
 }
 
 impl<'s> Model for World<'s> {
-    ghost use Rattle.dem_core.specs.Worlds.{Turning, parcel_of, IsKept};
+    ghost use Rattle.dem_core.specs.Worlds.{Turning, world_of, IsKept};
 
     ghost Value = { Turning };
 
-    ghost view = { λ a. record { scene = a.course.scene; drift = a.course.drift; bin = a.grid.now.bin; world = record { course = a.course.course; parcel = parcel_of a.parcel.place a.parcel.snap }; stopped = a.stopped } };
+    ghost view = { λ a. world_of a.course a.grid.now.bin a.parcel.place a.parcel.snap a.stopped };
 
     ghost invariant = { λ a. IsKept a.shapes.now a.grid.now a.course a.parcel };
 }
@@ -153,10 +153,10 @@ impl<'s> World<'s> {
         ensures { result ≡ enabled self.now.scene self.now.drift self.now.world t }
     {
         match t {
-            Turn::Post => self.course.can_post() && self.parcel.place == Place::Home,
-            Turn::Take => self.course.last().is_none() && self.parcel.place == Place::Posted,
-            Turn::Deliver => self.course.last().is_none() && self.parcel.place == Place::Taken,
-            Turn::Collect => self.course.last().is_none() && self.parcel.place == Place::Delivered,
+            Turn::Post => self.course.can_post() && self.parcel.place.is_home(),
+            Turn::Take => self.course.is_open() && self.parcel.place.is_posted(),
+            Turn::Deliver => self.course.is_open() && self.parcel.place.is_taken(),
+            Turn::Collect => self.course.is_open() && self.parcel.place.is_delivered(),
             Turn::Step => self.course.can_step(),
         }
     }
@@ -183,6 +183,7 @@ impl<'s> World<'s> {
         requires may { enabled self.old.scene self.old.drift self.old.world Post ≡ true }
         ensures { Turns self.old self.new Post (Ok result) }
     {
+        let _now = self.course.now();
         self.course.post_into(&mut self.parcel.snap);
         self.parcel.place = Place::Posted;
         Did::Moved
@@ -226,7 +227,7 @@ impl<'s> World<'s> {
         requires may { enabled self.old.scene self.old.drift self.old.world Collect ≡ true }
         ensures turned { Turns self.old self.new Collect result }
         ensures noted { Gains (rows_text (turn_rows self.old.scene self.old.drift self.old.world Collect)) (N.held note.old) (N.held note.new) result }
-        ensures faults { HasFaults 0 0 (N.faults note.old) (N.faults note.new) result }
+        ensures count { HasCount (N.faults note.old) (N.faults note.new) result }
     {
         let list = std::mem::replace(&mut self.parcel.list, PairList::empty(self.alloc));
         match self.course.collect(list, note) {
@@ -258,7 +259,7 @@ impl<'s> World<'s> {
         requires may { enabled self.old.scene self.old.drift self.old.world Step ≡ true }
         ensures turned { Turns self.old self.new Step result }
         ensures written { Gains (turn_text self.old.scene self.old.drift self.old.world Step) (K.held out.old) (K.held out.new) result }
-        ensures faults { HasFaults (K.faults out.old) (K.faults out.new) 0 0 result }
+        ensures count { HasCount (K.faults out.old) (K.faults out.new) result }
         ensures counted { tests.new ≡ tests.old + length self.old.world.course.pairs }
     {
         match self.course.step(out, tests) {

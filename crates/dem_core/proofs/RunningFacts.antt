@@ -143,11 +143,12 @@ end-writes old taken_at tests last r e view passed =
     sym (ap (step_text old.scene) passed) ∙ ap (λ (x : Running). step_text x.scene (step_of x.scene x.course.state)) view
 
 -- the row of a list
-pub row-writes : (old : Stepper) (taken_at tests at count : ℕ) (list : Pairs) (last : Option Last) (r : Running) → record { scene = old.scene; drift = old.drift; course = course_of old taken_at tests last } ≡ r → at ≡ old.state.step → count ≡ length list.pairs
-    → taken_text (record { from = list.from; at = at; pairs = count }) ≡ taken_text (row_with r.course list.from list.pairs)
+pub row-writes : (old : Stepper) (taken_at tests from at count : ℕ) (list : Pairs) (last : Option Last) (r : Running) → record { scene = old.scene; drift = old.drift; course = course_of old taken_at tests last } ≡ r → from ≡ list.from
+    → at ≡ old.state.step → count ≡ length list.pairs → taken_text (record { from = from; at = at; pairs = count }) ≡ taken_text (row_with r.course list.from list.pairs)
 unfolding row_with
-row-writes old taken_at tests at count list last r view here size =
-    ap₂ (λ a n. taken_text (record { from = list.from; at = a; pairs = n })) here size
+row-writes old taken_at tests from at count list last r view same here size =
+    ap (λ f. taken_text (record { from = f; at = at; pairs = count })) same
+    ∙ ap₂ (λ a n. taken_text (record { from = list.from; at = a; pairs = n })) here size
     ∙ ap (λ (x : Running). taken_text (record { from = list.from; at = x.course.state.step; pairs = length list.pairs })) view
 
 -- ---- a run that begins

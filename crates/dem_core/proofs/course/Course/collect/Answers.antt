@@ -23,7 +23,7 @@ returns-after-write_taken g c =
     listed-view c.self.inside.run c.adopt.new.self c.self.inside.taken_at c.self.inside.tests c.args.list.from c.self.inside.last c.args.list.pairs (course_of c.adopt.new.self c.now.result c.self.inside.tests c.self.inside.last) _ c.self.view_is
     c.in-Ok.ensures.taken.scene c.in-Ok.ensures.taken.drift
     (takes-course c.self.inside.run c.adopt.new.self c.args.list c.self.inside.taken_at c.now.result c.self.inside.tests c.self.inside.last c.in-Ok.ensures.taken c.now.ensures.value) in
-    let text = row-writes c.self.inside.run c.self.inside.taken_at c.self.inside.tests c.now.result c.len.result c.args.list c.self.inside.last _ c.self.view_is c.now.ensures.value c.len.ensures.value in
+    let text = row-writes c.self.inside.run c.self.inside.taken_at c.self.inside.tests c.from.result c.now.result c.len.result c.args.list c.self.inside.last _ c.self.view_is c.from.ensures c.now.ensures.value c.len.ensures.value in
     elim c.match-write_taken.branch [
       | in-Ok-write_taken w ↦ rw w.result-is (view, rw text at w.in-Ok-write_taken.ensures.written, w.in-Ok-write_taken.ensures.count)
       | in-Err-write_taken w ↦ rw w.result-is (view, rw text at w.in-Err-write_taken.ensures.written, w.in-Err-write_taken.ensures.count)

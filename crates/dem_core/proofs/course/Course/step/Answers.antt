@@ -41,21 +41,21 @@ pub returns-in_err-write_reached-in-Ok-clause-written : goal.returns-in_err-writ
 returns-in_err-write_reached-in-Ok-clause-written g c =
     let p = err_from_is_err_and c.from_residual.result c.from_residual.ensures.1 in rw (p.1) (rw (step-writes c.self.inside.run c.step.new.self c.self.inside.taken_at c.self.inside.tests c.self.inside.last _ c.self.view_is c.in-Ok.ensures.step) at c.in_err-write_reached-in-Ok.ensures.written)
 
-pub invariant_of-self-2 : goal.invariant_of-self-2
-invariant_of-self-2 g c =
+pub invariant_of-self-in-Ok : goal.invariant_of-self-in-Ok
+invariant_of-self-in-Ok g c =
     step-kept c.self.inside.run c.step.new.self c.self.inside.taken_at c.self.inside.tests (c.self.inside.tests + c.len.result) c.self.inside.last c.done_at-self-inside.result c.self.invariant.0 c.self.invariant.1
     (subst (λ (r : Running). may_step r.scene r.drift r.course ≡ true) (sym c.self.view_is) c.requires)
     (subst (λ n. n < 2 ^ 32) (c.len.ensures.value ∙ ap (λ (l : Pairs). length l.pairs) (c.list.ensures.value ∙ ap (λ (h : HeldByPlace). h.list) c.contacts.ensures.value)) c.len.type_inv)
     c.in-Ok.ensures.step.scene c.in-Ok.ensures.step.drift
     (steps-course c.self.inside.run c.step.new.self c.self.inside.taken_at c.self.inside.tests (c.self.inside.tests + c.len.result) c.self.inside.last c.done_at-self-inside.result c.in-Ok.ensures.step c.contacts-contacts.ensures.sound (ap (λ n. c.self.inside.tests + n) (c.len.ensures.value ∙ ap (λ (l : Pairs). length l.pairs) (c.list.ensures.value ∙ ap (λ (h : HeldByPlace). h.list) c.contacts.ensures.value))) (c.done_at-self-inside.ensures ∙ ap₂ done_at (c.scene-scene.ensures.value ∙ c.shapes.ensures) c.now.ensures.value))
 
-pub returns-in-Ok-clause-stepped : goal.returns-in-Ok-clause-stepped
-returns-in-Ok-clause-stepped g c =
+pub returns-in_ok-write_reached-in-Ok-clause-stepped : goal.returns-in_ok-write_reached-in-Ok-clause-stepped
+returns-in_ok-write_reached-in-Ok-clause-stepped g c =
     stepped-view c.self.inside.run c.step.new.self c.self.inside.taken_at c.self.inside.tests c.self.inside.last (course_of c.step.new.self c.self.inside.taken_at (c.self.inside.tests + c.len.result) c.done_at-self-inside.result) _ c.self.view_is c.in-Ok.ensures.step.scene c.in-Ok.ensures.step.drift
     (steps-course c.self.inside.run c.step.new.self c.self.inside.taken_at c.self.inside.tests (c.self.inside.tests + c.len.result) c.self.inside.last c.done_at-self-inside.result c.in-Ok.ensures.step c.contacts-contacts.ensures.sound (ap (λ n. c.self.inside.tests + n) (c.len.ensures.value ∙ ap (λ (l : Pairs). length l.pairs) (c.list.ensures.value ∙ ap (λ (h : HeldByPlace). h.list) c.contacts.ensures.value))) (c.done_at-self-inside.ensures ∙ ap₂ done_at (c.scene-scene.ensures.value ∙ c.shapes.ensures) c.now.ensures.value))
 
-pub returns-in-Ok-clause-written : goal.returns-in-Ok-clause-written
-returns-in-Ok-clause-written g c =
+pub returns-in_ok-write_reached-in-Ok-clause-written : goal.returns-in_ok-write_reached-in-Ok-clause-written
+returns-in_ok-write_reached-in-Ok-clause-written g c =
     rw (step-writes c.self.inside.run c.step.new.self c.self.inside.taken_at c.self.inside.tests c.self.inside.last _ c.self.view_is c.in-Ok.ensures.step) at c.in_ok-write_reached-in-Ok.ensures.written
 
 pub invariant_of-self-in_err-write_end-in-Err : goal.invariant_of-self-in_err-write_end-in-Err
@@ -83,11 +83,11 @@ invariant_of-self-in-Err g c =
     (ap (λ (r : Stepper). r.scene) c.in-Err.ensures.step.1) (ap (λ (r : Stepper). r.drift) c.in-Err.ensures.step.1)
     (ends-course c.self.inside.run c.step.new.self c.self.inside.taken_at c.self.inside.tests (c.self.inside.tests + c.len.result) c.self.inside.last c.in-Err.end c.in-Err.ensures.step.0 c.in-Err.ensures.step.1 (ap (λ n. c.self.inside.tests + n) (c.len.ensures.value ∙ ap (λ (l : Pairs). length l.pairs) (c.list.ensures.value ∙ ap (λ (h : HeldByPlace). h.list) c.contacts.ensures.value))))
 
-pub returns-in-Err-clause-stepped : goal.returns-in-Err-clause-stepped
-returns-in-Err-clause-stepped g c =
+pub returns-in_ok-write_end-in-Err-clause-stepped : goal.returns-in_ok-write_end-in-Err-clause-stepped
+returns-in_ok-write_end-in-Err-clause-stepped g c =
     stepped-view c.self.inside.run c.step.new.self c.self.inside.taken_at c.self.inside.tests c.self.inside.last (course_of c.step.new.self c.self.inside.taken_at (c.self.inside.tests + c.len.result) (Some (Passed c.in-Err.end))) _ c.self.view_is (ap (λ (r : Stepper). r.scene) c.in-Err.ensures.step.1) (ap (λ (r : Stepper). r.drift) c.in-Err.ensures.step.1)
     (ends-course c.self.inside.run c.step.new.self c.self.inside.taken_at c.self.inside.tests (c.self.inside.tests + c.len.result) c.self.inside.last c.in-Err.end c.in-Err.ensures.step.0 c.in-Err.ensures.step.1 (ap (λ n. c.self.inside.tests + n) (c.len.ensures.value ∙ ap (λ (l : Pairs). length l.pairs) (c.list.ensures.value ∙ ap (λ (h : HeldByPlace). h.list) c.contacts.ensures.value))))
 
-pub returns-in-Err-clause-written : goal.returns-in-Err-clause-written
-returns-in-Err-clause-written g c =
+pub returns-in_ok-write_end-in-Err-clause-written : goal.returns-in_ok-write_end-in-Err-clause-written
+returns-in_ok-write_end-in-Err-clause-written g c =
     rw (end-writes c.self.inside.run c.self.inside.taken_at c.self.inside.tests c.self.inside.last _ c.in-Err.end c.self.view_is c.in-Err.ensures.step.0) at c.in_ok-write_end-in-Err.ensures.written

@@ -13,7 +13,7 @@ use Rattle.dem_model.specs.Near.{near_of}
 use Rattle.dem_model.specs.Plain.{plain_at}
 use Rattle.dem_model.specs.Step.{step_of}
 use Rattle.dem_model.specs.Frames.{taken_text}
-use Rattle.dem_model.specs.World.{Snap, Parcel, Home, Posted, Taken, Delivered, Course, World, is_home, is_posted, is_taken, is_delivered, is_open, is_past, may_post, may_step, enabled, snap_of, carried_by, list_of, with_list, collected, stepped, with_parcel, made, turned, made_text, turn_text, step_text, row_of, row_with, made_rows, turn_rows, rows_text, next_turn}
+use Rattle.dem_model.specs.World.{Snap, Parcel, Home, Posted, Taken, Delivered, Course, World, is_home, is_posted, is_taken, is_delivered, is_open, is_past, may_post, may_step, enabled, snap_of, carried_by, list_of, with_list, collected, stepped, with_parcel, made, turned, made_text, turn_text, step_text, row_of, row_with, made_rows, turn_rows, rows_text, next_turn, first_course, first_world}
 use Rattle.dem_model.specs.declared.state.Last.{Last}
 use Rattle.dem_model.specs.declared.state.Pair.{Pair}
 use Rattle.dem_model.specs.declared.state.State.{State}
@@ -22,7 +22,7 @@ use Rattle.dem_model.specs.declared.state.Turn.TheVariants.{Post, Take, Deliver,
 use Rattle.dem_shape.specs.declared.snapshot.Snapshot.{Snapshot}
 use Rattle.dem_list.specs.Ascending.{Pairs}
 use Rattle.dem_margin.specs.NearList.{IsNearListOf}
-use Rattle.dem_bins.specs.Bins.{GridValue, IsGridOf}
+use Rattle.dem_bins.specs.Bins.{GridValue, IsGridOf, most_tests}
 use Rattle.dem_step.specs.Stepper.{IsSnapshotOfRun, IsListOfRun, state_at}
 use Rattle.dem_core.specs.Courses.{Running, IsOnCourse, MayCollect}
 use Rattle.dem_core.specs.Worlds.{Turning, IsOut, HasParcel, seen, parcel_of, world_of, Carries, IsKept, with_turn, Turns, Gains, HasCount, HasFaults, most_made, most_of_turn}
@@ -34,7 +34,7 @@ use Rattle.dem_core.specs.declared.parcel.Parcel.{Parcel as Room}
 use Rattle.dem_core.specs.declared.parcel.Place.{Place}
 use Rattle.dem_core.specs.declared.parcel.Place.TheVariants as place
 use Rattle.dem_core.proofs.CourseFacts.{open-none}
-use Rattle.dem_core.proofs.WorldFacts.{turned-on, text-on, rows-on, post-may, take-may, deliver-may, collect-may, step-may, IsOut-posted, IsOut-collect, IsOut-stepped}
+use Rattle.dem_core.proofs.WorldFacts.{turned-on, text-on, rows-on, rows-off, post-may, take-may, deliver-may, collect-may, step-may, IsOut-posted, IsOut-collect, IsOut-stepped}
 
 -- ---- which turns it may take
 
@@ -273,3 +273,171 @@ count-note out note note' (Err OutOfMemory) h = (refl, h)
 pub most-on : (old : Turning) (turn : Turn) → enabled old.scene old.drift old.world turn ≡ true → most_of_turn old turn ≡ most_made old.scene (record { drift = old.drift; bin = old.bin }) old.world turn
 unfolding most_of_turn
 most-on old turn on = ap (λ b. if b then most_made old.scene (record { drift = old.drift; bin = old.bin }) old.world turn else 0) on
+
+-- ---- a world that isn't stopped, as it is seen
+
+-- it is seen with no stop
+pub going-view : (now : Turning) (run : Running) (bin : ℕ) (p : Place) (snap : Snapshot) (st : Bool) → world_of run bin p snap st ≡ now → now.stopped ≡ false → (st ≡ false) × (world_of run bin p snap false ≡ now)
+going-view now run bin p snap st view going =
+    let stopped : st ≡ false = ap (λ (t : Turning). t.stopped) view ∙ going in
+    (stopped, ap (λ b. world_of run bin p snap b) (sym stopped) ∙ view)
+
+-- it may take the turn that it is seen to may take
+pub going-on : (now : Turning) (run : Running) (bin : ℕ) (p : Place) (snap : Snapshot) (st : Bool) (turn : Turn) → world_of run bin p snap st ≡ now → enabled now.scene now.drift now.world turn ≡ true
+    → enabled run.scene run.drift (record { course = run.course; parcel = parcel_of p snap }) turn ≡ true
+going-on now run bin p snap st turn view on = subst (λ (t : Turning). enabled t.scene t.drift t.world turn ≡ true) (sym view) on
+
+-- and so it is seen after a turn
+pub going-turns : (now : Turning) (run : Running) (bin : ℕ) (p : Place) (snap : Snapshot) (st : Bool) (turn : Turn) (new : Bool → Turning) (r : Result Did WorldStop) → world_of run bin p snap st ≡ now → now.stopped ≡ false
+    → Turns (world_of run bin p snap false) (new false) turn r → Turns now (new st) turn r
+going-turns now run bin p snap st turn new r view going turns =
+    let v = going-view now run bin p snap st view going in
+    subst (λ (t : Turning). Turns t (new st) turn r) v.1 (subst (λ b. Turns (world_of run bin p snap false) (new b) turn r) (sym v.0) turns)
+
+pub going-stops : (now : Turning) (run : Running) (bin : ℕ) (p : Place) (snap : Snapshot) (st : Bool) (turn : Turn) (new : Turning) (r : Result Did WorldStop) → world_of run bin p snap st ≡ now → now.stopped ≡ false
+    → Turns (world_of run bin p snap false) new turn r → Turns now new turn r
+going-stops now run bin p snap st turn new r view going turns =
+    subst (λ (t : Turning). Turns t new turn r) (going-view now run bin p snap st view going).1 turns
+
+-- ---- what is kept
+
+-- what the room holds, as the course sees it
+pub kept-carries : (s : SceneValue) (grid : GridValue) (run : Running) (room : Room) → IsKept s grid run room → Carries run.scene run.drift run.course room.place room.snap room.list
+kept-carries s grid run room k =
+    subst (λ d. Carries run.scene d run.course room.place room.snap room.list) (sym k.drift) (subst (λ x. Carries x grid.drift run.course room.place room.snap room.list) (sym k.scene) k.carries)
+
+pub kept-posted : (s : SceneValue) (grid : GridValue) (run : Running) (room : Room) (snap' : Snapshot) → IsKept s grid run room → IsOnCourse run.scene run.drift run.course
+    → enabled run.scene run.drift (record { course = run.course; parcel = parcel_of room.place room.snap }) Post ≡ true
+    → snap' ≡ record { step = run.course.state.step; bodies = run.course.state.bodies } → IsSnapshotOfRun run.scene snap' → IsKept s grid run (record { place = place.Posted; snap = snap'; list = room.list })
+kept-posted s grid run room snap' k on may is of_run =
+    let post = post-may run.scene run.drift (record { course = run.course; parcel = parcel_of room.place room.snap }) may in
+    let out : IsOut run.scene run.course (seen snap') = subst (IsOut run.scene run.course) (sym (seen-state snap' run.course.state is)) (IsOut-posted run.scene run.drift run.course on post.0) in
+    record {
+      grid_is = k.grid_is;
+      scene = k.scene;
+      drift = k.drift;
+      room = subst (λ (x : SceneValue). length snap'.bodies ≡ length x.clumps) k.scene of_run.sound.count;
+      carries = subst (λ (x : SceneValue). IsOut x run.course (seen snap') × IsSnapshotOfRun x snap') k.scene (out, of_run);
+    }
+
+pub kept-taken : (s : SceneValue) (grid : GridValue) (run : Running) (room : Room) → IsKept s grid run room
+    → enabled run.scene run.drift (record { course = run.course; parcel = parcel_of room.place room.snap }) Take ≡ true → IsKept s grid run (record { place = place.Taken; snap = room.snap; list = room.list })
+kept-taken s grid run room k may = record {
+  grid_is = k.grid_is;
+  scene = k.scene;
+  drift = k.drift;
+  room = k.room;
+  carries = (posted-carries s grid.drift run.course room.place room.snap room.list (take-may run.scene run.drift (record { course = run.course; parcel = parcel_of room.place room.snap }) may).1 k.carries).1;
+}
+
+-- the room of a parcel that kinematics has
+pub taken-room : (s : SceneValue) (grid : GridValue) (run : Running) (room : Room) → IsKept s grid run room
+    → enabled run.scene run.drift (record { course = run.course; parcel = parcel_of room.place room.snap }) Deliver ≡ true
+    → (carried_by (parcel_of room.place room.snap) ≡ seen room.snap) × Carries s grid.drift run.course place.Taken room.snap room.list
+taken-room s grid run room k may =
+    taken-carries s grid.drift run.course room.place room.snap room.list (deliver-may run.scene run.drift (record { course = run.course; parcel = parcel_of room.place room.snap }) may).1 k.carries
+
+pub kept-delivered : (s : SceneValue) (grid : GridValue) (run : Running) (room : Room) (list : Pairs) → IsKept s grid run room
+    → enabled run.scene run.drift (record { course = run.course; parcel = parcel_of room.place room.snap }) Deliver ≡ true → IsNearListOf s grid.drift room.snap list
+    → IsKept s grid run (record { place = place.Delivered; snap = room.snap; list = list })
+kept-delivered s grid run room list k may near =
+    let taken = (taken-room s grid run room k may).1 in
+    record { grid_is = k.grid_is; scene = k.scene; drift = k.drift; room = k.room; carries = (taken.0, taken.1, near) }
+
+-- while kinematics has the parcel any buffer may lie in it
+taken-any : (s : SceneValue) (drift : ℕ) (c : Course) (p : Place) (snap : Snapshot) (list other : Pairs) → is_taken (parcel_of p snap) ≡ true → Carries s drift c p snap list → Carries s drift c p snap other
+unfolding parcel_of is_taken
+taken-any s drift c place.Home snap list other is h = absurd (true≢false (sym is))
+taken-any s drift c place.Posted snap list other is h = absurd (true≢false (sym is))
+taken-any s drift c place.Taken snap list other is h = h
+taken-any s drift c place.Delivered snap list other is h = absurd (true≢false (sym is))
+
+pub kept-refused : (s : SceneValue) (grid : GridValue) (run : Running) (room : Room) (buffer : Pairs) → IsKept s grid run room
+    → enabled run.scene run.drift (record { course = run.course; parcel = parcel_of room.place room.snap }) Deliver ≡ true → IsKept s grid run (record { place = room.place; snap = room.snap; list = buffer })
+kept-refused s grid run room buffer k may = record {
+  grid_is = k.grid_is;
+  scene = k.scene;
+  drift = k.drift;
+  room = k.room;
+  carries = taken-any s grid.drift run.course room.place room.snap room.list buffer (deliver-may run.scene run.drift (record { course = run.course; parcel = parcel_of room.place room.snap }) may).1 k.carries;
+}
+
+pub kept-stepped : (s : SceneValue) (grid : GridValue) (run new : Running) (room : Room) → IsKept s grid run room → new ≡ record { scene = run.scene; drift = run.drift; course = stepped run.scene run.course } → IsKept s grid new room
+kept-stepped s grid run new room k is =
+    let carries : Carries s grid.drift (stepped run.scene run.course) room.place room.snap room.list =
+    subst (λ x. Carries s grid.drift (stepped x run.course) room.place room.snap room.list) (sym k.scene) (carries-stepped s grid.drift run.course room.place room.snap room.list k.carries) in
+    record {
+      grid_is = k.grid_is;
+      scene = ap (λ (r : Running). r.scene) is ∙ k.scene;
+      drift = ap (λ (r : Running). r.drift) is ∙ k.drift;
+      room = k.room;
+      carries = subst (λ (r : Running). Carries s grid.drift r.course room.place room.snap room.list) (sym is) carries;
+    }
+
+-- ---- Collect
+
+-- what Collect asks of the course
+pub collect-asks : (s : SceneValue) (grid : GridValue) (run : Running) (room : Room) (list : Pairs) → IsKept s grid run room → list ≡ room.list
+    → enabled run.scene run.drift (record { course = run.course; parcel = parcel_of room.place room.snap }) Collect ≡ true → IsListOfRun run.scene run.drift list × MayCollect run.course list.from
+collect-asks s grid run room list k same may =
+    let on = collect-may run.scene run.drift (record { course = run.course; parcel = parcel_of room.place room.snap }) may in
+    let carries = (delivered-carries run.scene run.drift run.course room.place room.snap room.list on.1 (kept-carries s grid run room k)).1 in
+    subst (λ (l : Pairs). IsListOfRun run.scene run.drift l × MayCollect run.course l.from) (sym same) (
+      near-of-run run.scene run.drift room.snap room.list carries.1 carries.2,
+      subst (MayCollect run.course) (sym carries.2.from) (IsOut-collect run.scene run.course (seen room.snap) on.0 carries.0),
+    )
+
+pub collect-turns : (s : SceneValue) (grid : GridValue) (run new : Running) (bin : ℕ) (room : Room) (list : Pairs) → IsKept s grid run room → list ≡ room.list
+    → enabled run.scene run.drift (record { course = run.course; parcel = parcel_of room.place room.snap }) Collect ≡ true → new ≡ record { scene = run.scene; drift = run.drift; course = with_list run.course list.from list.pairs }
+    → Turns (world_of run bin room.place room.snap false) (world_of new bin place.Home room.snap false) Collect (Ok did.Moved)
+collect-turns s grid run new bin room list k same may is =
+    let carries = subst (Carries run.scene run.drift run.course room.place room.snap) (sym same) (kept-carries s grid run room k) in (
+      may,
+      collect-view run new bin room.place room.snap list false may carries is,
+      ap (λ (r : Running). r.course.last) is ∙ collect-open run room.place room.snap list.from list.pairs may,
+    )
+
+pub collect-stops : (s : SceneValue) (grid : GridValue) (run new : Running) (bin : ℕ) (room : Room) (list : Pairs) → IsKept s grid run room → list ≡ room.list
+    → enabled run.scene run.drift (record { course = run.course; parcel = parcel_of room.place room.snap }) Collect ≡ true → new ≡ record { scene = run.scene; drift = run.drift; course = with_list run.course list.from list.pairs }
+    → Turns (world_of run bin room.place room.snap false) (world_of new bin place.Home room.snap true) Collect (Err WriteFault)
+collect-stops s grid run new bin room list k same may is =
+    (may, collect-view run new bin room.place room.snap list true may (subst (Carries run.scene run.drift run.course room.place room.snap) (sym same) (kept-carries s grid run room k)) is)
+
+pub collect-notes : (s : SceneValue) (grid : GridValue) (run : Running) (bin : ℕ) (room : Room) (list : Pairs) (st : Bool) (now : Turning) → IsKept s grid run room → list ≡ room.list → world_of run bin room.place room.snap st ≡ now
+    → enabled run.scene run.drift (record { course = run.course; parcel = parcel_of room.place room.snap }) Collect ≡ true
+    → taken_text (row_with run.course list.from list.pairs) ≡ rows_text (turn_rows now.scene now.drift now.world Collect)
+collect-notes s grid run bin room list st now k same view may =
+    collect-rows run room.place room.snap list may (subst (Carries run.scene run.drift run.course room.place room.snap) (sym same) (kept-carries s grid run room k))
+    ∙ ap (λ (t : Turning). rows_text (turn_rows t.scene t.drift t.world Collect)) view
+
+-- ---- Step
+
+pub step-writes : (run : Running) (bin : ℕ) (p : Place) (snap : Snapshot) (st : Bool) (now : Turning) → world_of run bin p snap st ≡ now
+    → enabled run.scene run.drift (record { course = run.course; parcel = parcel_of p snap }) Step ≡ true → step_text run.scene (step_of run.scene run.course.state) ≡ turn_text now.scene now.drift now.world Step
+step-writes run bin p snap st now view may =
+    step-text run.scene run.drift (record { course = run.course; parcel = parcel_of p snap }) may ∙ ap (λ (t : Turning). turn_text t.scene t.drift t.world Step) view
+
+-- ---- Deliver
+
+pub deliver-most : (s : SceneValue) (grid : GridValue) (run : Running) (room : Room) (st : Bool) (now : Turning) → IsKept s grid run room → world_of run grid.bin room.place room.snap st ≡ now
+    → enabled run.scene run.drift (record { course = run.course; parcel = parcel_of room.place room.snap }) Deliver ≡ true → most_tests s grid (centers_of s room.snap.bodies) ≡ most_of_turn now Deliver
+deliver-most s grid run room st now k view may =
+    let taken = taken-room s grid run room k may in
+    let world : World = record { course = run.course; parcel = parcel_of room.place room.snap } in
+    sym (ap (λ (x : Snap). most_tests s grid (centers_of s x.bodies)) taken.0)
+    ∙ sym (ap₂ (λ x d. most_tests x (record { drift = d; bin = grid.bin }) (centers_of x (carried_by (parcel_of room.place room.snap)).bodies)) k.scene k.drift)
+    ∙ sym (most-on (world_of run grid.bin room.place room.snap st) Deliver may)
+    ∙ ap (λ (t : Turning). most_of_turn t Deliver) view
+
+-- ---- a turn that may not be taken, and a world that begins
+
+pub rows-quiet : (s : SceneValue) (drift : ℕ) (w : World) (turn : Turn) → enabled s drift w turn ≡ false → rows_text (turn_rows s drift w turn) ≡ []
+unfolding rows_text
+rows-quiet s drift w turn off = ap rows_text (rows-off s drift w turn off)
+
+pub new-view : (s : SceneValue) (grid : GridValue) (run : Running) (room : Room) → run ≡ record { scene = s; drift = grid.drift; course = first_course s } → room.place ≡ place.Home
+    → world_of run grid.bin room.place room.snap false ≡ record { scene = s; drift = grid.drift; bin = grid.bin; world = first_world s; stopped = false }
+unfolding first_world parcel_of
+new-view s grid run room is home =
+    ap (λ (r : Running). world_of r grid.bin room.place room.snap false) is
+    ∙ ap (λ p. record { scene = s; drift = grid.drift; bin = grid.bin; world = record { course = first_course s; parcel = parcel_of p room.snap }; stopped = false }) home

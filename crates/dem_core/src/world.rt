@@ -111,6 +111,7 @@ impl<'s> World<'s> {
             if let Some(last) = self.course.last() {
                 return Ok(last);
             }
+            let _now = self.now();
             let t = self.next_turn();
             self.turn(t, out, note, tests)?;
         }

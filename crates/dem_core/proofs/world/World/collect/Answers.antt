@@ -27,8 +27,8 @@ returns-in-Ok-clause-noted g c =
 pub returns-in-Err-default-WriteFault-clause-turned : goal.returns-in-Err-default-WriteFault-clause-turned
 returns-in-Err-default-WriteFault-clause-turned g c = 
     going-stops _ c.self.inside.course c.self.inside.grid.now.bin c.self.inside.parcel.place c.self.inside.parcel.snap c.self.inside.stopped Collect (world_of c.collect.new.self c.self.inside.grid.now.bin place.Home c.self.inside.parcel.snap true) (Err WriteFault) c.self.view_is c.requires.going
-    (collect-stops c.self.inside.shapes.now c.self.inside.grid.now c.self.inside.course c.collect.new.self c.self.inside.grid.now.bin c.self.inside.parcel c.replace-list.result c.self.invariant c.replace-list.ensures.value (going-on _ c.self.inside.course c.self.inside.grid.now.bin c.self.inside.parcel.place c.self.inside.parcel.snap c.self.inside.stopped Collect c.self.view_is c.requires.may) c.in-Err-default-WriteFault.ensures.0)
+    (collect-stops c.self.inside.shapes.now c.self.inside.grid.now c.self.inside.course c.collect.new.self c.self.inside.grid.now.bin c.self.inside.parcel c.replace-list.result c.self.invariant c.replace-list.ensures.value (going-on _ c.self.inside.course c.self.inside.grid.now.bin c.self.inside.parcel.place c.self.inside.parcel.snap c.self.inside.stopped Collect c.self.view_is c.requires.may) (rw c.in-Err-default-WriteFault.field-0-1-is at c.in-Err-default-WriteFault.ensures).0)
 
 pub returns-in-Err-default-WriteFault-clause-noted : goal.returns-in-Err-default-WriteFault-clause-noted
 returns-in-Err-default-WriteFault-clause-noted g c = 
-    subst (AppendsPrefix (g.N.Sink.held c.args.note.now) (g.N.Sink.held c.collect.new.note)) (collect-notes c.self.inside.shapes.now c.self.inside.grid.now c.self.inside.course c.self.inside.grid.now.bin c.self.inside.parcel c.replace-list.result c.self.inside.stopped _ c.self.invariant c.replace-list.ensures.value c.self.view_is (going-on _ c.self.inside.course c.self.inside.grid.now.bin c.self.inside.parcel.place c.self.inside.parcel.snap c.self.inside.stopped Collect c.self.view_is c.requires.may)) c.in-Err-default-WriteFault.ensures.1
+    subst (AppendsPrefix (g.N.Sink.held c.args.note.now) (g.N.Sink.held c.collect.new.note)) (collect-notes c.self.inside.shapes.now c.self.inside.grid.now c.self.inside.course c.self.inside.grid.now.bin c.self.inside.parcel c.replace-list.result c.self.inside.stopped _ c.self.invariant c.replace-list.ensures.value c.self.view_is (going-on _ c.self.inside.course c.self.inside.grid.now.bin c.self.inside.parcel.place c.self.inside.parcel.snap c.self.inside.stopped Collect c.self.view_is c.requires.may)) (rw c.in-Err-default-WriteFault.field-0-1-is at c.in-Err-default-WriteFault.ensures).1

@@ -28,22 +28,22 @@ returns-else-is_open c =
 pub returns-then-is_open-2 : goal.returns-then-is_open-2
 unfolding enabled
 returns-then-is_open-2 c = 
-    rw c.in-Deliver.is (and-then (is_open c.self.inside.course.course) (is_taken (parcel_of c.self.inside.parcel.place c.self.inside.parcel.snap)) c.is_taken.result (sym c.is_open-in-Deliver.ensures ∙ c.if-is_open-in-Deliver.true) (c.is_taken.ensures c.self.inside.parcel.snap) ∙ ap (λ (t : Turning). enabled t.scene t.drift t.world Deliver) c.self.view_is)
+    rw c.in-Deliver.is (and-then (is_open c.self.inside.course.course) (is_taken (parcel_of c.self.inside.parcel.place c.self.inside.parcel.snap)) c.is_taken.result (sym c.is_open-in-Deliver.ensures ∙ c.if-is_open-2.true) (c.is_taken.ensures c.self.inside.parcel.snap) ∙ ap (λ (t : Turning). enabled t.scene t.drift t.world Deliver) c.self.view_is)
 
 pub returns-else-is_open-2 : goal.returns-else-is_open-2
 unfolding enabled
 returns-else-is_open-2 c = 
-    rw c.in-Deliver.is (and-else (is_open c.self.inside.course.course) (is_taken (parcel_of c.self.inside.parcel.place c.self.inside.parcel.snap)) c.is_open-in-Deliver.result c.is_open-in-Deliver.ensures c.if-is_open-in-Deliver.false ∙ ap (λ (t : Turning). enabled t.scene t.drift t.world Deliver) c.self.view_is)
+    rw c.in-Deliver.is (and-else (is_open c.self.inside.course.course) (is_taken (parcel_of c.self.inside.parcel.place c.self.inside.parcel.snap)) c.is_open-in-Deliver.result c.is_open-in-Deliver.ensures c.if-is_open-2.false ∙ ap (λ (t : Turning). enabled t.scene t.drift t.world Deliver) c.self.view_is)
 
 pub returns-then-is_open-3 : goal.returns-then-is_open-3
 unfolding enabled
 returns-then-is_open-3 c = 
-    rw c.in-Collect.is (and-then (is_open c.self.inside.course.course) (is_delivered (parcel_of c.self.inside.parcel.place c.self.inside.parcel.snap)) c.is_delivered.result (sym c.is_open-in-Collect.ensures ∙ c.if-is_open-in-Collect.true) (c.is_delivered.ensures c.self.inside.parcel.snap) ∙ ap (λ (t : Turning). enabled t.scene t.drift t.world Collect) c.self.view_is)
+    rw c.in-Collect.is (and-then (is_open c.self.inside.course.course) (is_delivered (parcel_of c.self.inside.parcel.place c.self.inside.parcel.snap)) c.is_delivered.result (sym c.is_open-in-Collect.ensures ∙ c.if-is_open-3.true) (c.is_delivered.ensures c.self.inside.parcel.snap) ∙ ap (λ (t : Turning). enabled t.scene t.drift t.world Collect) c.self.view_is)
 
 pub returns-else-is_open-3 : goal.returns-else-is_open-3
 unfolding enabled
 returns-else-is_open-3 c = 
-    rw c.in-Collect.is (and-else (is_open c.self.inside.course.course) (is_delivered (parcel_of c.self.inside.parcel.place c.self.inside.parcel.snap)) c.is_open-in-Collect.result c.is_open-in-Collect.ensures c.if-is_open-in-Collect.false ∙ ap (λ (t : Turning). enabled t.scene t.drift t.world Collect) c.self.view_is)
+    rw c.in-Collect.is (and-else (is_open c.self.inside.course.course) (is_delivered (parcel_of c.self.inside.parcel.place c.self.inside.parcel.snap)) c.is_open-in-Collect.result c.is_open-in-Collect.ensures c.if-is_open-3.false ∙ ap (λ (t : Turning). enabled t.scene t.drift t.world Collect) c.self.view_is)
 
 pub returns-in-Step : goal.returns-in-Step
 unfolding enabled

@@ -1,15 +1,15 @@
 -- When a run on lists may take a list and make a step, and that it stays on its course.
-use Rattle.std.proofs.Common.{◌≡◌, ℕ, zero, suc, ◌+◌, ◌*◌, ◌^◌, ◌<◌, ◌≤◌, ◌⊎◌, ◌↔◌, inl, inr, Bool, true, false, not, ◌&&◌, cond, List, [], ◌∷◌, length, map, get_or, drop, Option, None, Some, Result, Ok, Err, is_some, IsSomeAnd, nat_lt, nat_le, refl, sym, ap, ap₂, ◌∙◌, subst, arith, true≢false}
-use Rattle.std.specs.Prelude.{All, IfErr, slice_get, if◌then◌else◌}
+use Rattle.std.proofs.Common.{◌≡◌, ℕ, ◌+◌, ◌^◌, ◌<◌, ◌≤◌, ◌↔◌, inl, inr, Bool, true, false, not, ◌&&◌, List, [], ◌∷◌, length, map, get_or, drop, Option, None, Some, Result, Ok, Err, is_some, IsSomeAnd, nat_lt, refl, sym, ap, ap₂, ◌∙◌, subst, arith, true≢false}
+use Rattle.std.specs.Prelude.{IfErr, if◌then◌else◌}
 use Rattle.std.proofs.lemmas.Bool.{and_parts, ltb-true, lt-ltb, leb-true, le-leb, eq-eqb, ne_eqb, cases_lt}
 use Rattle.std.proofs.lemmas.List.{ext_get_or, length-map, get_or-map, get_or_default}
 use Rattle.std.proofs.lemmas.Option.{none-some}
 use Rattle.dem_num.specs.declared.vector.Vec3.{Vec3}
 use Rattle.dem_model.specs.SceneValue.{SceneValue}
-use Rattle.dem_model.specs.Carry.{kept_of, carried, Agrees}
+use Rattle.dem_model.specs.Carry.{kept_of}
 use Rattle.dem_model.specs.Centers.{centers_of}
 use Rattle.dem_model.specs.Near.{near_of}
-use Rattle.dem_model.specs.Plain.{first_state, plain_at, last_of}
+use Rattle.dem_model.specs.Plain.{first_state, plain_at}
 use Rattle.dem_model.specs.Step.{Meeting, advanced_from, held_at, step_of, step_with, state_with, ended, joined}
 use Rattle.dem_model.specs.declared.law.Load.{Load}
 use Rattle.dem_model.specs.declared.state.Body.{Body}
@@ -24,10 +24,10 @@ use Rattle.dem_list.specs.Ascending.{IsAscending}
 use Rattle.dem_hist.proofs.CarryFacts.{entry-here}
 use Rattle.dem_plain.proofs.RunFacts.{plain_first}
 use Rattle.dem_output.proofs.RunLaw.{step_of-step}
-use Rattle.dem_step.specs.Stepper.{Stepper, CanStep, state_at, IsListOfRun, IsInTime}
+use Rattle.dem_step.specs.Stepper.{Stepper, CanStep, IsListOfRun}
 use Rattle.dem_step.proofs.StepFacts.{plain-after}
-use Rattle.dem_model.specs.World.{Course, is_open, is_past, is_young, may_post, may_step, done_at, end_text, after_step, stepped, with_list, first_course}
-use Rattle.dem_core.specs.Courses.{Running, IsOnCourse, HasList, HasEnd, MayCollect, course_of, IsCounted}
+use Rattle.dem_model.specs.World.{Course, is_open, is_past, is_young, may_step, done_at, end_text, after_step, stepped, with_list, first_course}
+use Rattle.dem_core.specs.Courses.{IsOnCourse, HasList, HasEnd, MayCollect, course_of, IsCounted}
 use Rattle.dem_core.proofs.OutputFacts.{last-done, last-passed}
 
 -- ---- open and ended
@@ -238,8 +238,8 @@ entries-back ps es ascends as_many =
     let none : Pair = record { a = 0; b = 0 } in
     ext_get_or None (map (held_at (kept_of ps es)) ps) es (length-map ps (held_at (kept_of ps es)) ∙ sym as_many)
     (λ i lt. let within : i < length ps = omega (arith, length-map ps (held_at (kept_of ps es))) in
-      get_or-map (held_at (kept_of ps es)) ps i none None within
-      ∙ entry-here ps es i (get_or ps i none) ascends as_many within (λ d. get_or_default ps i d none within))
+    get_or-map (held_at (kept_of ps es)) ps i none None within
+    ∙ entry-here ps es i (get_or ps i none) ascends as_many within (λ d. get_or_default ps i d none within))
 
 -- ---- the end row of a state
 

@@ -1,17 +1,16 @@
 -- The turns with which a world goes on by itself: each may be taken, each brings it nearer to its end, and what they come to.
-use Rattle.std.proofs.Common.{◌≡◌, ℕ, zero, suc, ◌+◌, ◌-◌, ◌*◌, ◌<◌, ◌≤◌, ◌⊎◌, inl, inr, Bool, true, false, not, ◌&&◌, List, [], ◌∷◌, ◌++◌, length, Option, None, Some, Result, Ok, Err, refl, sym, ap, ap₂, ◌∙◌, subst, arith, append_assoc, append-nil, true≢false}
-use Rattle.std.specs.Prelude.{if◌then◌else◌, IsSomeAnd, flat_map}
+use Rattle.std.proofs.Common.{◌≡◌, ℕ, ◌+◌, ◌-◌, ◌*◌, ◌<◌, ◌≤◌, inl, inr, Bool, true, false, List, [], ◌∷◌, ◌++◌, Option, None, Some, Result, Ok, Err, refl, sym, ap, ap₂, ◌∙◌, subst, arith, append_assoc, append-nil, true≢false}
+use Rattle.std.specs.Prelude.{if◌then◌else◌, IsSomeAnd}
 use Rattle.std.specs.Io.KnownBytes.{Appends, Keeps}
 use Rattle.std.proofs.KnownBytes.{Appends-nil, Appends-trans, Appends-kept}
 use Rattle.std.proofs.lemmas.Grind.{flat_map-append}
-use Rattle.std.proofs.lemmas.Bool.{cases_Bool, cases_lt, lt-ltb, and_parts}
-use Rattle.dem_outside.specs.Faults.{Rose}
+use Rattle.std.proofs.lemmas.Bool.{cases_Bool, cases_lt, lt-ltb}
 use Rattle.dem_outside.specs.Known.{AppendsPrefix}
 use Rattle.dem_outside.proofs.Prefixes.{AppendsPrefix-after}
 use Rattle.dem_model.specs.SceneValue.{SceneValue}
 use Rattle.dem_model.specs.Step.{step_of}
 use Rattle.dem_model.specs.Frames.{taken_text}
-use Rattle.dem_model.specs.World.{Snap, Parcel, Home, Posted, Taken, Delivered, Course, World, is_home, is_posted, is_taken, is_delivered, is_past, is_open, may_post, may_step, enabled, snap_of, carried_by, list_of, with_list, collected, after_step, stepped, with_parcel, made, turned, turn_text, turn_rows, rows_text, world_after, text_after, rows_after, next_turn, GoesOnBy}
+use Rattle.dem_model.specs.World.{Snap, Parcel, Home, Posted, Taken, Delivered, Course, World, is_home, is_posted, is_taken, is_delivered, is_past, is_open, may_post, may_step, enabled, snap_of, carried_by, with_list, collected, after_step, stepped, with_parcel, made, turned, turn_text, turn_rows, rows_text, world_after, text_after, rows_after, next_turn, GoesOnBy}
 use Rattle.dem_model.specs.declared.state.End.{End}
 use Rattle.dem_model.specs.declared.state.Last.{Last}
 use Rattle.dem_model.specs.declared.state.State.{State}
@@ -19,14 +18,15 @@ use Rattle.dem_model.specs.declared.state.TakenRow.{TakenRow}
 use Rattle.dem_model.specs.declared.state.Turn.{Turn}
 use Rattle.dem_model.specs.declared.state.Turn.TheVariants.{Post, Take, Deliver, Collect, Step}
 use Rattle.dem_output.proofs.RunLaw.{step_of-step}
-use Rattle.dem_core.specs.Courses.{IsOnCourse, HasList, HasEnd}
-use Rattle.dem_core.specs.Worlds.{Turning, IsOut, HasParcel, with_turn, with_turns, Turns, TakesMemory, Gains, GainsAll, HasFaults, LeadTo, GoesOn, most_of_turn, most_of_turns}
+use Rattle.dem_core.specs.Courses.{IsOnCourse, HasEnd}
+use Rattle.dem_core.specs.Worlds.{Turning, IsOut, with_turn, with_turns, Turns, TakesMemory, Gains, HasEnded, GoesOn, most_of_turn, most_of_turns}
 use Rattle.dem_core.specs.declared.did.Did.{Did}
 use Rattle.dem_core.specs.declared.did.Did.TheVariants as did
 use Rattle.dem_core.specs.declared.did.WorldStop.{WorldStop}
 use Rattle.dem_core.specs.declared.did.WorldStop.TheVariants.{WriteFault, OutOfMemory}
 use Rattle.dem_core.proofs.CourseFacts.{GoesOn as CanGoOn, may-goes_on, goes_on-may, open-none, none-open, in-time}
-use Rattle.dem_core.proofs.WorldFacts.{Kept, Kept-turned, turned-on, step-may, collect-may, out-delivered, IsOut-collect}
+use Rattle.dem_core.proofs.SoFarFacts.{text-ended}
+use Rattle.dem_core.proofs.WorldFacts.{Kept, turned-on, IsOut-collect}
 use Rattle.dem_core.proofs.SpellFacts.{rows-append}
 use Rattle.dem_core.proofs.TurningFacts.{next-step, next-post, next-take, next-deliver, next-collect}
 
@@ -169,8 +169,12 @@ rank-collect : (s : SceneValue) (drift : ℕ) (c : Course) (snap : Snap) → IsO
 unfolding made place_rank carried_by
 rank-collect s drift c snap on out going off =
     let new = collected-goes s drift c snap on out going in
-    omega (arith, collected-step s drift c snap, rank-open s drift (record { course = c; parcel = Delivered snap }) true false going off,
-      rank-open s drift (record { course = collected s drift c snap; parcel = Home }) true true new.0 new.1)
+    omega (
+      arith,
+      collected-step s drift c snap,
+      rank-open s drift (record { course = c; parcel = Delivered snap }) true false going off,
+      rank-open s drift (record { course = collected s drift c snap; parcel = Home }) true true new.0 new.1,
+    )
 
 rank-exchange : (s : SceneValue) (drift : ℕ) (c : Course) (p : Parcel) → Kept s drift (record { course = c; parcel = p }) → is_open c ≡ true → may_step s drift c ≡ false
     → rank s drift (made s drift (record { course = c; parcel = p }) (next_turn s drift (record { course = c; parcel = p }))) < rank s drift (record { course = c; parcel = p })
@@ -349,3 +353,20 @@ pub GoesOn-ended : (old now : Turning) (out out_now note note_now : Option (List
     → GoesOn old now out out_now note note_now tests tests_now (Ok last)
 GoesOn-ended old now out out_now note note_now tests tests_now last u is =
     record { turns = u.turns; by_itself = u.by_itself; ends = (u.is, is); written = u.written; noted = u.noted; counted = omega (arith, u.counted) }
+
+-- a turn that was made brings the world nearer to its end
+pub rank-did : (mid new : Turning) (turn : Turn) (did : Did) → Kept mid.scene mid.drift mid.world → is_open mid.world.course ≡ true → turn ≡ next_turn mid.scene mid.drift mid.world → Turns mid new turn (Ok did)
+    → rank new.scene new.drift new.world < rank mid.scene mid.drift mid.world
+rank-did mid new turn did.Moved k going next turns =
+    subst (λ (t : Turning). rank t.scene t.drift t.world < rank mid.scene mid.drift mid.world) (sym turns.1) (rank-less mid.scene mid.drift mid.world turn k going next)
+rank-did mid new turn (did.Closed last) k going next turns =
+    subst (λ (t : Turning). rank t.scene t.drift t.world < rank mid.scene mid.drift mid.world) (sym turns.1) (rank-less mid.scene mid.drift mid.world turn k going next)
+rank-did mid new turn did.Idle k going next turns =
+    let on : enabled mid.scene mid.drift mid.world turn ≡ true = subst (λ t. enabled mid.scene mid.drift mid.world t ≡ true) (sym next) (next-enabled mid.scene mid.drift mid.world k.course going) in
+    absurd (true≢false (sym on ∙ turns.0))
+
+-- a world that has ended has written the whole output
+pub ended-whole : (now : Turning) (last : Last) → IsOnCourse now.scene now.drift now.world.course → now.world.course.last ≡ Some last → HasEnded now last
+ended-whole now last on is =
+    let all = text-ended now.scene now.drift now.world.course last on is in
+    record { ended = is; last_is = all.1; whole = all.0 }

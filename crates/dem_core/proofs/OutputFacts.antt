@@ -1,8 +1,7 @@
 -- The output of a run, cut at a state that it reaches: the frames up to there, and what is left.
-use Rattle.std.proofs.Common.{◌≡◌, ℕ, zero, suc, ◌+◌, ◌-◌, ◌<◌, ◌≤◌, Bool, true, false, cond, List, [], ◌∷◌, ◌++◌, filter, None, Some, Option, Result, Ok, Err, refl, sym, ap, ◌∙◌, subst, add-one, append_assoc, append-nil, arith, zero-add, suc-add, flat_map, filter_map}
+use Rattle.std.proofs.Common.{◌≡◌, ℕ, zero, suc, ◌+◌, ◌-◌, ◌<◌, true, false, cond, [], ◌∷◌, ◌++◌, filter, None, Some, Err, refl, sym, ap, ◌∙◌, subst, add-one, append_assoc, append-nil, arith, zero-add, suc-add, flat_map, filter_map}
 use Rattle.std.specs.List.{range_with_len, cons_option}
 use Rattle.std.specs.Option.{option_map_or}
-use Rattle.std.specs.Result.{result_err}
 use Rattle.std.proofs.lemmas.Grind.{flat_map-append}
 use Rattle.std.proofs.lemmas.List.Elements.{filter-append, filter_map-append}
 use Rattle.dem_model.specs.SceneValue.{SceneValue}
@@ -12,9 +11,8 @@ use Rattle.dem_model.specs.Frames.{state_text, last_text}
 use Rattle.dem_model.specs.Output.{is_due, frame_at, output_of}
 use Rattle.dem_model.specs.declared.state.State.{State}
 use Rattle.dem_model.specs.declared.state.End.{End}
-use Rattle.dem_model.specs.declared.state.Last.{Last}
 use Rattle.dem_model.specs.declared.state.Last.TheVariants.{Done, Passed}
-use Rattle.dem_step.proofs.DriftFacts.{HasBefore, has_before}
+use Rattle.dem_step.proofs.DriftFacts.{has_before}
 use Rattle.dem_model.specs.Output.{due_text}
 use Rattle.dem_output.proofs.RunLaw.{by_step, frames_from, last_from, frames-left, last-left}
 use Rattle.dem_core.specs.SoFar.{frames_to}

@@ -1,9 +1,9 @@
 -- A run on lists as it is stored: what its calls make of what contracts see.
-use Rattle.std.proofs.Common.{◌≡◌, ℕ, ◌+◌, ◌*◌, ◌^◌, ◌<◌, ◌≤◌, Bool, true, false, not, ◌&&◌, List, [], length, map, Option, None, Some, Result, Ok, Err, is_some, nat_lt, refl, sym, ap, ap₂, ◌∙◌, subst, arith}
+use Rattle.std.proofs.Common.{◌≡◌, ℕ, ◌+◌, ◌*◌, ◌^◌, ◌<◌, ◌≤◌, Bool, true, false, not, ◌&&◌, List, length, map, Option, None, Some, Err, is_some, nat_lt, refl, sym, ap, ap₂, ◌∙◌, subst, arith}
 use Rattle.dem_num.specs.declared.vector.Vec3.{Vec3}
 use Rattle.dem_model.specs.SceneValue.{SceneValue}
 use Rattle.dem_model.specs.Sound.{IsSound}
-use Rattle.dem_model.specs.Carry.{kept_of, carried}
+use Rattle.dem_model.specs.Carry.{kept_of}
 use Rattle.dem_model.specs.Plain.{first_state}
 use Rattle.dem_model.specs.Frames.{last_text, taken_text}
 use Rattle.dem_model.specs.Step.{held_at, step_of}
@@ -17,7 +17,7 @@ use Rattle.dem_step.specs.Contacts.{AreContacts}
 use Rattle.dem_step.specs.Stepper.{Stepper, IsListOfRun, Begins, TakesList, MakesStep, IsInTime}
 use Rattle.dem_model.specs.World.{Course, is_open, is_past, may_post, may_step, done_at, after_step, stepped, with_list, first_course, reached_text, step_text, row_with}
 use Rattle.dem_core.specs.Courses.{Running, IsOnCourse, MayCollect, course_of, IsCounted}
-use Rattle.dem_core.proofs.CourseFacts.{open-none, in-time, may-goes_on, IsOnCourse-first, IsOnCourse-stepped, IsOnCourse-with_list, list-near, IsCounted-stepped, entries-back}
+use Rattle.dem_core.proofs.CourseFacts.{in-time, may-goes_on, IsOnCourse-first, IsOnCourse-stepped, IsOnCourse-with_list, list-near, IsCounted-stepped, entries-back}
 
 -- ---- when a snapshot may be posted
 

@@ -1,5 +1,5 @@
 -- What a run on lists has written so far: after each call, as a prefix of the output, and at its end.
-use Rattle.std.proofs.Common.{◌≡◌, ℕ, zero, suc, ◌+◌, ◌-◌, ◌<◌, ◌≤◌, Bool, true, List, [], ◌∷◌, ◌++◌, None, Some, Option, Result, Ok, Err, refl, sym, ap, ◌∙◌, subst, add-one, append_assoc, append-nil, arith}
+use Rattle.std.proofs.Common.{◌≡◌, ℕ, ◌-◌, true, List, [], ◌++◌, None, Some, Option, Result, Ok, Err, refl, sym, ap, ◌∙◌, subst, append_assoc, append-nil, arith}
 use Rattle.dem_model.specs.SceneValue.{SceneValue}
 use Rattle.dem_model.specs.Step.{step_of}
 use Rattle.dem_model.specs.Plain.{first_state, plain_at, last_of}
@@ -11,7 +11,7 @@ use Rattle.dem_model.specs.declared.state.End.{End}
 use Rattle.dem_model.specs.declared.state.Last.{Last}
 use Rattle.dem_model.specs.declared.state.Last.TheVariants.{Done, Passed}
 use Rattle.dem_plain.proofs.RunFacts.{plain_first}
-use Rattle.dem_step.proofs.StepFacts.{plain-after, plain-number}
+use Rattle.dem_step.proofs.StepFacts.{plain-after}
 use Rattle.dem_model.specs.Output.{due_text}
 use Rattle.dem_output.proofs.RunLaw.{frames_from, step_of-step}
 use Rattle.dem_model.specs.World.{Course, may_step, done_at, end_text, reached_text, step_text, after_step, stepped, with_list, first_course}

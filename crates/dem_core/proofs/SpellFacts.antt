@@ -1,14 +1,13 @@
 -- Along the turns of legal rows a world may take every turn, and ends as the plain run does, with these rows.
-use Rattle.std.proofs.Common.{◌≡◌, ℕ, zero, suc, ◌+◌, ◌-◌, ◌<◌, ◌≤◌, Bool, true, false, not, ◌&&◌, List, [], ◌∷◌, ◌++◌, length, replicate, Option, None, Some, Result, Ok, Err, IsSomeAnd, is_some, option_and_then, refl, sym, ap, ap₂, ◌∙◌, subst, arith, append_assoc, append-nil, inl, inr, true≢false, add-one}
+use Rattle.std.proofs.Common.{◌≡◌, ℕ, zero, suc, ◌+◌, ◌-◌, ◌<◌, ◌≤◌, true, List, [], ◌∷◌, ◌++◌, length, replicate, Option, None, Some, Result, Ok, Err, IsSomeAnd, option_and_then, refl, sym, ap, ap₂, ◌∙◌, subst, arith, append_assoc, append-nil}
 use Rattle.std.specs.Prelude.{if◌then◌else◌}
 use Rattle.std.specs.List.{AllByRecursion}
 use Rattle.std.proofs.lemmas.Bool.{lt-ltb, ne_eqb, eq-eqb}
 use Rattle.dem_model.specs.SceneValue.{SceneValue}
-use Rattle.dem_model.specs.Plain.{first_state, plain_at, last_of}
-use Rattle.dem_model.specs.Output.{output_of}
+use Rattle.dem_model.specs.Plain.{plain_at, last_of}
 use Rattle.dem_model.specs.Step.{step_of}
-use Rattle.dem_model.specs.World.{Snap, Parcel, Home, Posted, Taken, Delivered, Course, World, is_home, is_posted, is_taken, is_delivered, is_past, is_open, may_post, may_step, enabled, snap_of, carried_by, list_of, with_list, collected, done_at, after_step, stepped, with_parcel, made, turned, first_course, first_world, reached_text, text_after, rows_after, world_after, row_of, row_with, made_rows, turn_rows, turn_text, goes, along}
-use Rattle.dem_model.specs.TakenRows.{begun, used_until, IsFollowed, IsRow, AreRows, BeginsAtFirst, IsLegal, steps, spell_from, spell, tests_of}
+use Rattle.dem_model.specs.World.{Snap, Parcel, Home, Posted, Taken, Delivered, Course, World, is_home, is_posted, is_taken, is_delivered, is_past, may_post, enabled, snap_of, carried_by, list_of, with_list, collected, done_at, stepped, with_parcel, made, turned, first_course, first_world, text_after, rows_after, world_after, row_of, row_with, made_rows, turn_rows, turn_text, goes, along}
+use Rattle.dem_model.specs.TakenRows.{begun, used_until, IsFollowed, AreRows, IsLegal, steps, spell_from, spell}
 use Rattle.dem_model.specs.declared.state.End.{End}
 use Rattle.dem_model.specs.declared.state.Last.{Last}
 use Rattle.dem_model.specs.declared.state.Last.TheVariants.{Done, Passed}
@@ -22,9 +21,9 @@ use Rattle.dem_core.specs.Courses.{IsOnCourse, HasEnd}
 use Rattle.dem_core.specs.SoFar.{begun_by, text_so_far, HasTaken}
 use Rattle.dem_core.specs.Playing.{Plays}
 use Rattle.dem_core.proofs.OutputFacts.{last-here}
-use Rattle.dem_core.proofs.CourseFacts.{GoesOn, goes_on-may, none-open, end-number, first-number}
+use Rattle.dem_core.proofs.CourseFacts.{goes_on-may, none-open, end-number, first-number}
 use Rattle.dem_core.proofs.SoFarFacts.{text-ended}
-use Rattle.dem_core.proofs.TakenFacts.{IsOneMore, one-more, HasTaken-ended}
+use Rattle.dem_core.proofs.TakenFacts.{one-more, HasTaken-ended}
 use Rattle.dem_core.proofs.WorldFacts.{Kept, Kept-first, Kept-made, Kept-turned, turned-on, rows-on, so_far-first, so_far-turned, taken-first, HasTaken-turned}
 
 -- ---- turns in order
@@ -356,17 +355,17 @@ rows-end s drift (row ∷ rows) w n from h each in_time comes serves =
     ends-turns s drift w (steps (row.from - n)) (Post ∷ Take ∷ Deliver ∷ (steps (row.at - row.from) ++ Collect ∷ spell_from row.at rows (begun (last_of s)))) (n + (row.from - n)) from Home (row ∷ rows) a
     (exchange s drift a.world row.from from (steps (row.at - row.from) ++ Collect ∷ spell_from row.at rows (begun (last_of s))) (row ∷ rows) there comes.0
     (λ v stands.
-      let b = steps-arrive s drift (row.at - row.from) v row.from from (Delivered (snap_of a.world.course.state)) stands (subst (Serves drift from row.from) (sym at2) (serves-later drift from n row.from row.at serves comes.1)) (omega (arith, each.0.past, in_time.0)) in
-      let ready : Stands s drift b.world row.at from (Delivered (snap_of a.world.course.state)) = subst (λ m. Stands s drift b.world m from (Delivered (snap_of a.world.course.state))) at2 b.stands in
-      let c = is-collected s drift b.world row.at from (snap_of a.world.course.state) ready in
-      let from_is : (snap_of a.world.course.state).step ≡ row.from = snap-step a.world.course.state ∙ there.at in
-      let stands' : Stands s drift (made s drift b.world Collect) row.at (Some row.from) Home = subst (λ m. Stands s drift (made s drift b.world Collect) row.at (Some m) Home) from_is c.stands in
-      let rest = rows-end s drift rows (made s drift b.world Collect) row.at (Some row.from) stands' each.1 in_time.1 (comes-next (begun (last_of s)) row rows each.0.followed in_time.0) each.0.used in
-      let noted : made_rows s drift b.world Collect ≡ row ∷ [] =
-      c.rows_are
-      ∙ ap₂ (λ f m. (let r : TakenRow = record { from = f; at = row.at; pairs = m } in r) ∷ []) from_is (sym size) in
-      ends-turns s drift v (steps (row.at - row.from)) (Collect ∷ spell_from row.at rows (begun (last_of s))) (row.from + (row.at - row.from)) from (Delivered (snap_of a.world.course.state)) (row ∷ rows) b
-      (subst (λ l. Ends s drift b.world (Collect ∷ spell_from row.at rows (begun (last_of s))) (l ++ rows)) noted (ends-turn s drift b.world Collect (spell_from row.at rows (begun (last_of s))) rows c.on rest))))
+    let b = steps-arrive s drift (row.at - row.from) v row.from from (Delivered (snap_of a.world.course.state)) stands (subst (Serves drift from row.from) (sym at2) (serves-later drift from n row.from row.at serves comes.1)) (omega (arith, each.0.past, in_time.0)) in
+    let ready : Stands s drift b.world row.at from (Delivered (snap_of a.world.course.state)) = subst (λ m. Stands s drift b.world m from (Delivered (snap_of a.world.course.state))) at2 b.stands in
+    let c = is-collected s drift b.world row.at from (snap_of a.world.course.state) ready in
+    let from_is : (snap_of a.world.course.state).step ≡ row.from = snap-step a.world.course.state ∙ there.at in
+    let stands' : Stands s drift (made s drift b.world Collect) row.at (Some row.from) Home = subst (λ m. Stands s drift (made s drift b.world Collect) row.at (Some m) Home) from_is c.stands in
+    let rest = rows-end s drift rows (made s drift b.world Collect) row.at (Some row.from) stands' each.1 in_time.1 (comes-next (begun (last_of s)) row rows each.0.followed in_time.0) each.0.used in
+    let noted : made_rows s drift b.world Collect ≡ row ∷ [] =
+    c.rows_are
+    ∙ ap₂ (λ f m. (let r : TakenRow = record { from = f; at = row.at; pairs = m } in r) ∷ []) from_is (sym size) in
+    ends-turns s drift v (steps (row.at - row.from)) (Collect ∷ spell_from row.at rows (begun (last_of s))) (row.from + (row.at - row.from)) from (Delivered (snap_of a.world.course.state)) (row ∷ rows) b
+    (subst (λ l. Ends s drift b.world (Collect ∷ spell_from row.at rows (begun (last_of s))) (l ++ rows)) noted (ends-turn s drift b.world Collect (spell_from row.at rows (begun (last_of s))) rows c.on rest))))
 
 -- ---- the law
 

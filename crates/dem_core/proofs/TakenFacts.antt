@@ -1,8 +1,8 @@
 -- The rows of the lists that a run has taken into use: after each call, and at its end.
-use Rattle.std.proofs.Common.{◌≡◌, ◌≢◌, ℕ, zero, suc, ◌+◌, ◌-◌, ◌*◌, ◌<◌, ◌≤◌, Bool, true, false, List, [], ◌∷◌, ◌++◌, length, Option, None, Some, Result, Ok, Err, IsSomeAnd, nat_eq, refl, sym, ap, ap₂, ◌∙◌, subst, arith, append_assoc, append-nil, mul-suc, mul-zero, inl, inr}
+use Rattle.std.proofs.Common.{◌≡◌, ℕ, suc, ◌+◌, ◌-◌, ◌*◌, ◌<◌, ◌≤◌, true, false, List, [], ◌∷◌, ◌++◌, length, Option, None, Some, Result, Ok, Err, IsSomeAnd, refl, sym, ap, ap₂, ◌∙◌, subst, arith, mul-suc, mul-zero, inl, inr}
 use Rattle.std.specs.Prelude.{◌==◌, if◌then◌else◌}
 use Rattle.std.specs.List.{AllByRecursion}
-use Rattle.std.proofs.lemmas.Bool.{ltb-true, eq-eqb, ne_eqb, cases_lt}
+use Rattle.std.proofs.lemmas.Bool.{ltb-true, ne_eqb, cases_lt}
 use Rattle.std.proofs.lemmas.Option.{none-some}
 use Rattle.dem_model.specs.SceneValue.{SceneValue}
 use Rattle.dem_model.specs.Centers.{centers_of}
@@ -13,12 +13,12 @@ use Rattle.dem_model.specs.World.{Course, is_past, may_step, done_at, after_step
 use Rattle.dem_model.specs.TakenRows.{begun, used_until, IsFollowed, IsRow, AreRows, BeginsAtFirst, IsLegal, tests_until, tests_of}
 use Rattle.dem_model.specs.declared.state.End.{End}
 use Rattle.dem_model.specs.declared.state.Last.{Last}
-use Rattle.dem_model.specs.declared.state.Last.TheVariants.{Done, Passed}
+use Rattle.dem_model.specs.declared.state.Last.TheVariants.{Done}
 use Rattle.dem_model.specs.declared.state.Pair.{Pair}
 use Rattle.dem_model.specs.declared.state.State.{State}
 use Rattle.dem_model.specs.declared.state.TakenRow.{TakenRow}
 use Rattle.dem_output.proofs.RunLaw.{step_of-step}
-use Rattle.dem_core.specs.Courses.{IsOnCourse, HasList, HasEnd, MayCollect}
+use Rattle.dem_core.specs.Courses.{IsOnCourse, HasList, MayCollect}
 use Rattle.dem_core.specs.SoFar.{begun_by, AreInTime, EndsWithList, HasTaken}
 use Rattle.dem_core.proofs.CourseFacts.{GoesOn, may-goes_on, open-none, in-time, end-number}
 
@@ -201,9 +201,10 @@ taken-list s drift c rows from pairs (Some f) on may h list newest newer one =
     let each : AreRows s drift (newest.0 ++ row f c.taken_at (length c.pairs) ∷ []) c.state.step =
     subst (λ l. AreRows s drift l c.state.step) newest.1 (subst (AreRows s drift rows) begun h.each) in
     let first : BeginsAtFirst (newest.0 ++ row f c.taken_at (length c.pairs) ∷ []) = subst BeginsAtFirst newest.1 h.first in
-    subst (λ l. AreRows s drift (l ++ row from c.state.step (length pairs) ∷ []) c.state.step × BeginsAtFirst (l ++ row from c.state.step (length pairs) ∷ [])) (sym newest.1)
-    (rows-more s drift newest.0 (row f c.taken_at (length c.pairs)) (row from c.state.step (length pairs)) each (ltb-true f from newer) may.since one,
-    first-more newest.0 (row f c.taken_at (length c.pairs)) (row from c.state.step (length pairs)) first)
+    subst (λ l. AreRows s drift (l ++ row from c.state.step (length pairs) ∷ []) c.state.step × BeginsAtFirst (l ++ row from c.state.step (length pairs) ∷ [])) (sym newest.1) (
+      rows-more s drift newest.0 (row f c.taken_at (length c.pairs)) (row from c.state.step (length pairs)) each (ltb-true f from newer) may.since one,
+      first-more newest.0 (row f c.taken_at (length c.pairs)) (row from c.state.step (length pairs)) first,
+    )
 
 size-of : (s : SceneValue) (drift : ℕ) (pairs : List Pair) (o : Option State) → IsSomeAnd o (λ st. pairs ≡ near_of s drift (centers_of s st.bodies)) → IsSomeAnd o (λ st. length pairs ≡ length (list_of s drift (snap_of st)))
 unfolding list_of snap_of

@@ -1,20 +1,16 @@
 -- A world as it is stored: which turns it may take, and what they make of what contracts see.
-use Rattle.std.proofs.Common.{◌≡◌, ℕ, ◌+◌, ◌<◌, ◌≤◌, ◌⊎◌, inl, inr, Bool, true, false, not, ◌&&◌, List, [], ◌∷◌, ◌++◌, length, Option, None, Some, Result, Ok, Err, refl, sym, ap, ap₂, ◌∙◌, subst, arith, append-nil, true≢false}
+use Rattle.std.proofs.Common.{◌≡◌, ℕ, inl, inr, Bool, true, false, ◌&&◌, List, [], length, Option, None, Some, Result, Ok, Err, refl, sym, ap, ap₂, ◌∙◌, subst, append-nil, true≢false}
 use Rattle.std.specs.Prelude.{if◌then◌else◌}
 use Rattle.std.specs.Io.KnownBytes.{Appends, Keeps}
 use Rattle.std.proofs.KnownBytes.{Appends-nil}
 use Rattle.std.proofs.lemmas.Bool.{and_parts}
-use Rattle.dem_outside.specs.Faults.{Rose, Counts}
-use Rattle.dem_outside.specs.Known.{AppendsPrefix, PutAppends}
 use Rattle.dem_model.specs.SceneValue.{SceneValue}
 use Rattle.dem_model.specs.Centers.{centers_of}
-use Rattle.dem_model.specs.Motion.{AreSound}
 use Rattle.dem_model.specs.Near.{near_of}
 use Rattle.dem_model.specs.Plain.{plain_at}
 use Rattle.dem_model.specs.Step.{step_of}
 use Rattle.dem_model.specs.Frames.{taken_text}
-use Rattle.dem_model.specs.World.{Snap, Parcel, Home, Posted, Taken, Delivered, Course, World, is_home, is_posted, is_taken, is_delivered, is_open, is_past, may_post, may_step, enabled, snap_of, carried_by, list_of, with_list, collected, stepped, with_parcel, made, turned, made_text, turn_text, step_text, row_of, row_with, made_rows, turn_rows, rows_text, next_turn, first_course, first_world}
-use Rattle.dem_model.specs.declared.state.Last.{Last}
+use Rattle.dem_model.specs.World.{Snap, Parcel, Home, Posted, Taken, Delivered, Course, World, is_posted, is_taken, is_delivered, is_open, is_past, may_post, may_step, enabled, snap_of, carried_by, list_of, with_list, collected, stepped, with_parcel, made, made_text, turn_text, step_text, row_of, row_with, made_rows, turn_rows, rows_text, next_turn, first_course, first_world}
 use Rattle.dem_model.specs.declared.state.Pair.{Pair}
 use Rattle.dem_model.specs.declared.state.State.{State}
 use Rattle.dem_model.specs.declared.state.Turn.{Turn}
@@ -22,7 +18,7 @@ use Rattle.dem_model.specs.declared.state.Turn.TheVariants.{Post, Take, Deliver,
 use Rattle.dem_shape.specs.declared.snapshot.Snapshot.{Snapshot}
 use Rattle.dem_list.specs.Ascending.{Pairs}
 use Rattle.dem_margin.specs.NearList.{IsNearListOf}
-use Rattle.dem_bins.specs.Bins.{GridValue, IsGridOf, most_tests}
+use Rattle.dem_bins.specs.Bins.{GridValue, most_tests}
 use Rattle.dem_step.specs.Stepper.{IsSnapshotOfRun, IsListOfRun, state_at}
 use Rattle.dem_core.specs.Courses.{Running, IsOnCourse, MayCollect}
 use Rattle.dem_core.specs.Worlds.{Turning, IsOut, HasParcel, seen, parcel_of, world_of, Carries, IsKept, with_turn, Turns, Gains, HasCount, HasFaults, most_made, most_of_turn}
@@ -34,7 +30,7 @@ use Rattle.dem_core.specs.declared.parcel.Parcel.{Parcel as Room}
 use Rattle.dem_core.specs.declared.parcel.Place.{Place}
 use Rattle.dem_core.specs.declared.parcel.Place.TheVariants as place
 use Rattle.dem_core.proofs.CourseFacts.{open-none}
-use Rattle.dem_core.proofs.WorldFacts.{turned-on, text-on, rows-on, rows-off, post-may, take-may, deliver-may, collect-may, step-may, IsOut-posted, IsOut-collect, IsOut-stepped}
+use Rattle.dem_core.proofs.WorldFacts.{turned-on, text-on, rows-on, rows-off, post-may, take-may, deliver-may, collect-may, IsOut-posted, IsOut-collect, IsOut-stepped}
 
 -- ---- which turns it may take
 

@@ -1,15 +1,14 @@
 -- What holds of every world of turns: after each turn, and what the turns have written.
-use Rattle.std.proofs.Common.{◌≡◌, ℕ, ◌+◌, ◌<◌, ◌≤◌, Bool, true, false, not, ◌&&◌, List, [], ◌∷◌, ◌++◌, length, Option, None, Some, Result, Ok, Err, IsSomeAnd, is_some, refl, sym, ap, ap₂, ◌∙◌, subst, arith, append_assoc, append-nil, inl, inr, true≢false}
+use Rattle.std.proofs.Common.{◌≡◌, ℕ, ◌≤◌, true, false, List, [], ◌++◌, Option, None, Some, Result, Ok, Err, IsSomeAnd, refl, sym, ap, ◌∙◌, subst, arith, append-nil, inl, inr, true≢false}
 use Rattle.std.specs.Prelude.{if◌then◌else◌}
-use Rattle.std.proofs.lemmas.Bool.{and_parts, cases_Bool, lt-ltb, ltb-true}
+use Rattle.std.proofs.lemmas.Bool.{and_parts, cases_Bool}
 use Rattle.dem_model.specs.SceneValue.{SceneValue}
 use Rattle.dem_model.specs.Centers.{centers_of}
 use Rattle.dem_model.specs.Near.{near_of}
 use Rattle.dem_model.specs.Plain.{first_state, plain_at}
 use Rattle.dem_model.specs.Step.{step_of}
-use Rattle.dem_model.specs.World.{Snap, Parcel, Home, Posted, Taken, Delivered, Course, World, is_home, is_posted, is_taken, is_delivered, is_past, is_open, may_post, may_step, enabled, snap_of, carried_by, list_of, with_list, collected, after_step, stepped, with_parcel, made, turned, first_course, first_world, reached_text, made_text, turn_text, row_of, made_rows, turn_rows, step_text}
+use Rattle.dem_model.specs.World.{Snap, Parcel, Home, Posted, Taken, Delivered, Course, World, is_home, is_posted, is_taken, is_delivered, is_past, is_open, may_post, may_step, enabled, snap_of, carried_by, list_of, collected, after_step, stepped, with_parcel, made, turned, first_world, reached_text, made_text, turn_text, row_of, made_rows, turn_rows}
 use Rattle.dem_model.specs.declared.state.End.{End}
-use Rattle.dem_model.specs.declared.state.Pair.{Pair}
 use Rattle.dem_model.specs.declared.state.State.{State}
 use Rattle.dem_model.specs.declared.state.TakenRow.{TakenRow}
 use Rattle.dem_model.specs.declared.state.Turn.{Turn}

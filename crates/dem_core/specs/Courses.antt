@@ -1,5 +1,5 @@
 -- A run on lists as contracts see it: what holds of each, and what its calls change and write.
-use Rattle.std.specs.Prelude.{ℕ, ◌≡◌, ◌+◌, ◌*◌, ◌^◌, ◌<◌, ◌≤◌, true, List, [], ◌∷◌, Option, Some, None, Result, Ok, Err}
+use Rattle.std.specs.Prelude.{ℕ, ◌≡◌, ◌+◌, ◌*◌, ◌^◌, ◌<◌, ◌≤◌, true, List, [], Option, Some, None, Result, Ok, Err}
 use Rattle.std.specs.Io.KnownBytes.{Appends, Keeps}
 use Rattle.std.specs.Option.{IsSomeAnd}
 use Rattle.dem_outside.specs.Faults.{Rose}
@@ -13,8 +13,6 @@ use Rattle.dem_model.specs.Step.{step_of}
 use Rattle.dem_model.specs.Frames.{taken_text}
 use Rattle.dem_model.specs.declared.state.Last.{Last}
 use Rattle.dem_model.specs.declared.state.Last.TheVariants.{Done, Passed}
-use Rattle.dem_model.specs.declared.state.Pair.{Pair}
-use Rattle.dem_model.specs.declared.state.State.{State}
 use Rattle.dem_list.specs.Ascending.{Pairs}
 use Rattle.dem_step.specs.Contacts.{IsHeldIn}
 use Rattle.dem_step.specs.Stepper.{Stepper}

@@ -1,11 +1,12 @@
 -- A world as contracts see it: what holds of each, and what a turn and the turns of `finish` change and write.
-use Rattle.std.specs.Prelude.{ℕ, ◌≡◌, ◌+◌, ◌⊎◌, ◌<◌, ◌≤◌, Bool, true, false, List, [], ◌∷◌, length, Option, Some, None, Result, Ok, Err, if◌then◌else◌}
+use Rattle.std.specs.Prelude.{ℕ, ◌≡◌, ◌+◌, ◌⊎◌, ◌≤◌, Bool, true, false, List, [], ◌∷◌, length, Option, Some, None, Result, Ok, Err, if◌then◌else◌}
 use Rattle.std.specs.Io.KnownBytes.{Appends, Keeps}
 use Rattle.dem_outside.specs.Faults.{Rose}
 use Rattle.dem_outside.specs.Known.{AppendsPrefix}
 use Rattle.dem_model.specs.SceneValue.{SceneValue}
 use Rattle.dem_model.specs.Centers.{centers_of}
-use Rattle.dem_model.specs.Plain.{first_state, plain_at}
+use Rattle.dem_model.specs.Output.{output_of}
+use Rattle.dem_model.specs.Plain.{first_state, plain_at, last_of}
 use Rattle.dem_model.specs.declared.state.Last.{Last}
 use Rattle.dem_model.specs.declared.state.Turn.{Turn}
 use Rattle.dem_model.specs.declared.state.Turn.TheVariants.{Post, Take, Deliver, Collect, Step}
@@ -14,8 +15,9 @@ use Rattle.dem_list.specs.Ascending.{Pairs}
 use Rattle.dem_margin.specs.NearList.{IsNearListOf}
 use Rattle.dem_bins.specs.Bins.{GridValue, IsGridOf, most_tests}
 use Rattle.dem_step.specs.Stepper.{IsSnapshotOfRun, state_at}
-use Rattle.dem_model.specs.World.{Snap, Parcel, Home, Posted, Taken, Delivered, Course, World, carried_by, is_past, is_open, enabled, turned, first_world, reached_text, turn_text, turn_rows, rows_text, world_after, text_after, rows_after, next_turn, GoesOnBy}
+use Rattle.dem_model.specs.World.{Snap, Parcel, Home, Posted, Taken, Delivered, Course, World, carried_by, is_past, enabled, turned, first_world, reached_text, rows_text, world_after, text_after, rows_after, next_turn, GoesOnBy}
 use Rattle.dem_core.specs.Courses.{Running}
+use Rattle.dem_core.specs.SoFar.{text_so_far}
 use Rattle.dem_core.specs.declared.parcel.Parcel.{Parcel as Room}
 use Rattle.dem_core.specs.declared.did.Did.{Did}
 use Rattle.dem_core.specs.declared.did.Did.TheVariants as did
@@ -149,6 +151,12 @@ BeginsWorld s grid held now faults faults_now (Err WriteFault) = AppendsPrefix h
 BeginsWorld s grid held now faults faults_now (Err OutOfMemory) = Keeps held now × (faults_now ≡ faults)
 
 -- ---- what the turns of `finish` change
+
+-- a world has ended as the plain run does, and what it has written is the whole output
+pub record HasEnded (now : Turning) (last : Last) : Type 0 where
+  pub ended : now.world.course.last ≡ Some last
+  pub last_is : last ≡ last_of now.scene
+  pub whole : text_so_far now.scene now.world.course ≡ output_of now.scene
 
 -- the world after these turns, stopped or not
 abbrev pub with_turns : Turning → List Turn → Bool → Turning

@@ -12,5 +12,4 @@ use dem_shape::Shapes;
 /// with these rows, and with the tests that they stand for. A law: it does nothing.
 pub fn plays(shapes: &Shapes, drift: u32)
     ensures { (rows : Seq TakenRow) → IsLegal shapes.now drift (last_of shapes.now) rows → Plays shapes.now drift rows (last_of shapes.now) }
-{
-}
+{}

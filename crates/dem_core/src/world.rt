@@ -1,11 +1,11 @@
 //! The world of turns: a run on lists, and the exchange that brings them, on one thread.
 
-ghost use Rattle.std.specs.Prelude.{◌≡◌, ◌+◌, ◌<◌, ◌≤◌, true, false, length, slice_get, Ok, Some};
+ghost use Rattle.std.specs.Prelude.{◌≡◌, ◌+◌, ◌<◌, ◌≤◌, true, false, length, slice_get, Ok, Some, IfOk};
 ghost use Rattle.dem_model.specs.World.{enabled, next_turn as next_turn_of, turn_text, turn_rows, rows_text, is_open};
 ghost use Rattle.dem_core.specs.Courses.{IsOnCourse, HoldsRight};
 ghost use Rattle.dem_model.specs.declared.state.Turn.TheVariants.{Post, Take, Deliver, Collect, Step};
 ghost use Rattle.dem_bins.specs.Bins.{IsGridOf};
-ghost use Rattle.dem_core.specs.Worlds.{HasParcel, Turns, NoPut, Gains, HasCount, HasFaults, BeginsWorld, GoesOn, most_of_turn};
+ghost use Rattle.dem_core.specs.Worlds.{HasParcel, Turns, NoPut, Gains, HasCount, HasFaults, BeginsWorld, HasEnded, GoesOn, most_of_turn};
 
 use crate::course::Course;
 use crate::did::{Did, WorldStop};
@@ -96,7 +96,8 @@ impl<'s> World<'s> {
     }
 
     /// Makes the turns that are left: a step while one may be made, and else the exchange. Answers how the run ended, at once
-    /// where it has. After a refusal of memory the turns before the refused one were made.
+    /// where it has; then all that the world has written is the output. After a refusal of memory the turns before the refused
+    /// one were made.
     pub fn finish<K: Sink, N: Sink, L: Ledger>(
         &mut self,
         out: &mut K,
@@ -105,13 +106,14 @@ impl<'s> World<'s> {
     ) -> Result<Last, WorldStop>
         requires { self.old.stopped ≡ false }
         ensures goes_on { GoesOn self.old self.new (K.held out.old) (K.held out.new) (N.held note.old) (N.held note.new) tests.old tests.new result }
+        ensures ends { IfOk result (HasEnded self.new) }
         ensures faults { HasFaults (K.faults out.old) (K.faults out.new) (N.faults note.old) (N.faults note.new) result }
     {
         loop {
+            let _now = self.now();
             if let Some(last) = self.course.last() {
                 return Ok(last);
             }
-            let _now = self.now();
             let t = self.next_turn();
             self.turn(t, out, note, tests)?;
         }
@@ -209,7 +211,10 @@ impl<'s> World<'s> {
         ensures counted { tests.new ≤ tests.old + most_of_turn self.old Deliver }
     {
         let buffer = std::mem::replace(&mut self.parcel.list, PairList::empty(self.alloc));
-        match self.grid.build(self.alloc, self.shapes, &self.parcel.snap, buffer, tests) {
+        match self
+            .grid
+            .build(self.alloc, self.shapes, &self.parcel.snap, buffer, tests)
+        {
             Ok(list) => {
                 self.parcel.list = list;
                 self.parcel.place = Place::Delivered;

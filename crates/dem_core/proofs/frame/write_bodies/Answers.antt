@@ -20,6 +20,10 @@ loop-k-preserved g c = (
 pub returns-clause-written : goal.returns-clause-written
 returns-clause-written g c =
     clumps-all _ _ c.args.run.now.state.bodies c.loop-k.k
-    (omega (arith, plain-count c.args.run.now.scene c.args.run.now.state.step c.args.run.now.state c.now-step.ensures.plain,
-      ap (λ (s : SceneValue). length s.clumps) (c.behind-shapes.view_is ∙ c.scene.ensures.value ∙ c.shapes.ensures), c.len-k-end.ensures))
+    (omega (
+      arith,
+      plain-count c.args.run.now.scene c.args.run.now.state.step c.args.run.now.state c.now-step.ensures.plain,
+      ap (λ (s : SceneValue). length s.clumps) (c.behind-shapes.view_is ∙ c.scene.ensures.value ∙ c.shapes.ensures),
+      c.len-k-end.ensures,
+    ))
     c.loop-k.invariant.0

@@ -1,6 +1,5 @@
-use Rattle.std.proofs.Common.{◌∙◌, ap, sym, length, List, arith}
+use Rattle.std.proofs.Common.{◌∙◌, ap, length, arith}
 use Rattle.std.proofs.lemmas.Result.{err_from_is_err_and}
-use Rattle.dem_hist.specs.Carrying.{HeldByPlace}
 use Rattle.dem_list.specs.Ascending.{Pairs}
 use Rattle.dem_core.proofs.EntryFacts.{entries-more, entries-failed, entries-all}
 use Rattle.dem_core.proofs.frame.write_held.Goals as goal

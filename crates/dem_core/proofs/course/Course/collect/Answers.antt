@@ -1,5 +1,5 @@
-use Rattle.std.proofs.Common.{◌≡◌, sym, ap, ◌∙◌, subst}
-use Rattle.dem_step.specs.Stepper.{Stepper, IsListOfRun}
+use Rattle.std.proofs.Common.{sym, subst}
+use Rattle.dem_step.specs.Stepper.{IsListOfRun}
 use Rattle.dem_core.specs.Courses.{Running, MayCollect, course_of}
 use Rattle.dem_core.proofs.RunningFacts.{collect-in_time, takes-kept, takes-course, listed-view, row-writes}
 use Rattle.dem_core.proofs.course.Course.collect.Goals as goal

@@ -1,5 +1,4 @@
-use Rattle.std.proofs.Common.{◌≡◌, sym, ap, ◌∙◌, subst}
-use Rattle.std.specs.Io.KnownBytes.{Appends}
+use Rattle.std.proofs.Common.{ap, ◌∙◌}
 use Rattle.dem_model.specs.World.{done_at}
 use Rattle.dem_core.proofs.RunningFacts.{begins-held, begins-kept, begins-view, begins-writes}
 use Rattle.dem_core.proofs.course.Course.new.Goals as goal

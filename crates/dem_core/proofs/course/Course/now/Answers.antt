@@ -1,4 +1,4 @@
-use Rattle.std.proofs.Common.{◌≡◌, sym, ap, ◌∙◌, subst}
+use Rattle.std.proofs.Common.{ap, ◌∙◌, subst}
 use Rattle.dem_core.specs.Courses.{Running, HoldsRight}
 use Rattle.dem_core.proofs.course.Course.now.Goals as goal
 

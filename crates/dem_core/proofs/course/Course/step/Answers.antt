@@ -1,6 +1,5 @@
 use Rattle.std.proofs.Common.{◌≡◌, ◌+◌, ◌^◌, ◌<◌, length, true, Some, sym, ap, ap₂, ◌∙◌, subst, arith}
 use Rattle.std.proofs.lemmas.Result.{err_from_is_err_and}
-use Rattle.dem_model.specs.SceneValue.{SceneValue}
 use Rattle.dem_model.specs.Sound.{IsSound}
 use Rattle.dem_model.specs.World.{may_step, done_at}
 use Rattle.dem_model.specs.declared.state.Last.TheVariants.{Passed}
@@ -15,9 +14,13 @@ use Rattle.dem_core.proofs.course.Course.step.Goals as goal
 pub overflow_add-self : goal.overflow_add-self
 overflow_add-self g c =
     let lens : c.len.result ≡ length c.self.inside.run.contacts.list.pairs = c.len.ensures.value ∙ ap (λ (l : Pairs). length l.pairs) (c.list.ensures.value ∙ ap (λ (h : HeldByPlace). h.list) c.contacts.ensures.value) in
-    omega (arith, lens, tests-fit c.self.inside.run.scene c.self.inside.run.drift (course_of c.self.inside.run c.self.inside.taken_at c.self.inside.tests c.self.inside.last) (subst IsSound c.shapes.ensures c.scene-scene.ensures.sound) c.self.invariant.1
-    (subst (λ (r : Running). may_step r.scene r.drift r.course ≡ true) (sym c.self.view_is) c.requires)
-    (subst (λ n. n < 2 ^ 32) (c.len.ensures.value ∙ ap (λ (l : Pairs). length l.pairs) (c.list.ensures.value ∙ ap (λ (h : HeldByPlace). h.list) c.contacts.ensures.value)) c.len.type_inv))
+    omega (
+      arith,
+      lens,
+      tests-fit c.self.inside.run.scene c.self.inside.run.drift (course_of c.self.inside.run c.self.inside.taken_at c.self.inside.tests c.self.inside.last) (subst IsSound c.shapes.ensures c.scene-scene.ensures.sound) c.self.invariant.1
+          (subst (λ (r : Running). may_step r.scene r.drift r.course ≡ true) (sym c.self.view_is) c.requires)
+          (subst (λ n. n < 2 ^ 32) (c.len.ensures.value ∙ ap (λ (l : Pairs). length l.pairs) (c.list.ensures.value ∙ ap (λ (h : HeldByPlace). h.list) c.contacts.ensures.value)) c.len.type_inv),
+    )
 
 pub step-requires : goal.step-requires
 step-requires g c =

@@ -1,4 +1,4 @@
-use Rattle.std.proofs.Common.{◌≡◌, ◌+◌, true, false, Bool, Ok, Err, Some, None, [], sym, ap, ◌∙◌, subst, arith}
+use Rattle.std.proofs.Common.{Ok, arith}
 use Rattle.dem_model.specs.declared.state.Turn.TheVariants.{Deliver}
 use Rattle.dem_core.specs.Worlds.{world_of}
 use Rattle.dem_core.specs.declared.did.Did.TheVariants as did
@@ -16,7 +16,7 @@ pub invariant_of-self-in-Err : goal.invariant_of-self-in-Err
 invariant_of-self-in-Err g c = kept-refused c.self.inside.shapes.now c.self.inside.grid.now c.self.inside.course c.self.inside.parcel c.in-Err.buffer c.self.invariant (going-on _ c.self.inside.course c.self.inside.grid.now.bin c.self.inside.parcel.place c.self.inside.parcel.snap c.self.inside.stopped Deliver c.self.view_is c.requires.may)
 
 pub returns-in-Ok-clause-turned : goal.returns-in-Ok-clause-turned
-returns-in-Ok-clause-turned g c = 
+returns-in-Ok-clause-turned g c =
     going-turns _ c.self.inside.course c.self.inside.grid.now.bin c.self.inside.parcel.place c.self.inside.parcel.snap c.self.inside.stopped Deliver (λ b. world_of c.self.inside.course c.self.inside.grid.now.bin place.Delivered c.self.inside.parcel.snap b) (Ok did.Moved) c.self.view_is c.requires.going
     (deliver-turns c.self.inside.course c.self.inside.grid.now.bin c.self.inside.parcel.place c.self.inside.parcel.snap c.self.inside.parcel.list (going-on _ c.self.inside.course c.self.inside.grid.now.bin c.self.inside.parcel.place c.self.inside.parcel.snap c.self.inside.stopped Deliver c.self.view_is c.requires.may) (kept-carries c.self.inside.shapes.now c.self.inside.grid.now c.self.inside.course c.self.inside.parcel c.self.invariant))
 

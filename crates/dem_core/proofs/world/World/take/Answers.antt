@@ -1,4 +1,4 @@
-use Rattle.std.proofs.Common.{◌≡◌, ◌+◌, true, false, Bool, Ok, Err, Some, None, [], sym, ap, ◌∙◌, subst, arith}
+use Rattle.std.proofs.Common.{Ok}
 use Rattle.dem_model.specs.declared.state.Turn.TheVariants.{Take}
 use Rattle.dem_core.specs.Worlds.{world_of}
 use Rattle.dem_core.specs.declared.did.Did.TheVariants as did
@@ -10,6 +10,6 @@ pub invariant_of-self : goal.invariant_of-self
 invariant_of-self c = kept-taken c.self.inside.shapes.now c.self.inside.grid.now c.self.inside.course c.self.inside.parcel c.self.invariant (going-on _ c.self.inside.course c.self.inside.grid.now.bin c.self.inside.parcel.place c.self.inside.parcel.snap c.self.inside.stopped Take c.self.view_is c.requires.may)
 
 pub returns : goal.returns
-returns c = 
+returns c =
     going-turns _ c.self.inside.course c.self.inside.grid.now.bin c.self.inside.parcel.place c.self.inside.parcel.snap c.self.inside.stopped Take (λ b. world_of c.self.inside.course c.self.inside.grid.now.bin place.Taken c.self.inside.parcel.snap b) (Ok did.Moved) c.self.view_is c.requires.going
     (take-turns c.self.inside.course c.self.inside.grid.now.bin c.self.inside.parcel.place c.self.inside.parcel.snap c.self.inside.parcel.list (going-on _ c.self.inside.course c.self.inside.grid.now.bin c.self.inside.parcel.place c.self.inside.parcel.snap c.self.inside.stopped Take c.self.view_is c.requires.may) (kept-carries c.self.inside.shapes.now c.self.inside.grid.now c.self.inside.course c.self.inside.parcel c.self.invariant))

@@ -1,8 +1,8 @@
-use Rattle.std.proofs.Common.{◌≡◌, ◌+◌, true, false, Bool, Ok, Err, Some, None, [], sym, ap, ◌∙◌, subst, arith}
+use Rattle.std.proofs.Common.{◌≡◌, true, sym, ap, ◌∙◌, subst, arith}
 use Rattle.std.specs.Io.KnownBytes.{Appends}
 use Rattle.std.proofs.KnownBytes.{Appends-nil}
 use Rattle.dem_model.specs.World.{enabled, turn_text, turn_rows, rows_text}
-use Rattle.dem_model.specs.declared.state.Turn.TheVariants.{Post, Take, Deliver, Collect, Step}
+use Rattle.dem_model.specs.declared.state.Turn.TheVariants.{Step}
 use Rattle.dem_core.specs.Worlds.{most_of_turn}
 use Rattle.dem_core.proofs.WorldFacts.{text-off}
 use Rattle.dem_core.proofs.TurningFacts.{gains-none, rows-quiet, post-quiet, take-quiet, deliver-quiet, collect-quiet, step-quiet, most-on}

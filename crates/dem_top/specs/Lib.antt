@@ -1,3 +1,4 @@
+pub mod TurnNotes
 pub mod Verdicts
 pub mod Jobs
 pub mod Answers

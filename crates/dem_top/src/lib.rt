@@ -10,9 +10,11 @@ mod outcome;
 mod plain;
 mod reading;
 mod refusal;
+mod sched;
 mod status;
 mod streams;
 mod top;
+mod turns;
 
 pub use streams::{Served, Writers, stream_call};
 pub use top::{main_call, quiet_call};

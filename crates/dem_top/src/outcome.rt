@@ -2,12 +2,15 @@
 ghost use Rattle.std.specs.Prelude.{◌≡◌};
 ghost use Rattle.dem_outside.specs.Change.{change};
 ghost use Rattle.dem_top.specs.Refusals.{outcome_status as outcome_status_of};
-ghost use Rattle.dem_top.specs.Parts.{read_stop, scene_stop, run_stop, run_outcome, Tells};
+ghost use Rattle.dem_top.specs.Parts.{read_stop, scene_stop, run_stop, bin_stop, world_stop, run_outcome, Tells};
+ghost use Rattle.dem_top.specs.declared.outcome.NotDone.TheVariants as stops;
 
 use crate::reading::ReadFault;
 use crate::refusal::{Refusal, put_line, refuse};
 use crate::status::{OUT_OF_MEMORY, READ_FAILED, WRITE_FAILED};
-use dem_model::Last;
+use dem_bins::BinTooSmall;
+use dem_core::WorldStop;
+use dem_model::{Last, OutOfMemory};
 use dem_output::RunFault;
 use dem_outside::Sink;
 use dem_scene::SceneFault;
@@ -71,6 +74,33 @@ impl From<RunFault> for NotDone {
             RunFault::WriteFault => NotDone::WriteFailed,
             RunFault::OutOfMemory => NotDone::OutOfMemory,
         }
+    }
+}
+
+impl From<BinTooSmall> for NotDone {
+    ghost from_gives = { λ f s. s ≡ bin_stop f };
+
+    fn from(fault: BinTooSmall) -> NotDone {
+        NotDone::Refused(Refusal::Bin(fault.cells))
+    }
+}
+
+impl From<WorldStop> for NotDone {
+    ghost from_gives = { λ f s. s ≡ world_stop f };
+
+    fn from(stop: WorldStop) -> NotDone {
+        match stop {
+            WorldStop::WriteFault => NotDone::WriteFailed,
+            WorldStop::OutOfMemory => NotDone::OutOfMemory,
+        }
+    }
+}
+
+impl From<OutOfMemory> for NotDone {
+    ghost from_gives = { λ _ s. s ≡ stops.OutOfMemory };
+
+    fn from(_: OutOfMemory) -> NotDone {
+        NotDone::OutOfMemory
     }
 }
 

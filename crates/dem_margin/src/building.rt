@@ -5,6 +5,7 @@ ghost use Rattle.dem_model.specs.Centers.{centers_of};
 ghost use Rattle.dem_model.specs.Motion.{AreInside, AreSound};
 ghost use Rattle.dem_model.specs.Near.{near, near_of};
 ghost use Rattle.dem_model.specs.Pairs.{sphere_count, limit_of, pairs_below};
+ghost use Rattle.dem_model.specs.declared.limits.TheConstants.{MAX_DRIFT};
 ghost use Rattle.dem_margin.specs.NearList.{IsNearListOf, pair_if_near};
 
 use crate::margin::tested;
@@ -22,7 +23,7 @@ pub fn build_all(
     buf: PairList,
 ) -> Result<PairList, (PairList, OutOfMemory)>
     requires sound { AreSound shapes.now snap.now.bodies }
-    requires drift { drift ≤ 1024 }
+    requires drift { drift ≤ MAX_DRIFT }
     ensures near { IfOk result (IsNearListOf shapes.now drift snap.now) }
     ensures refused { IfErr result (λ refused. refused.0 ≡ record { from = snap.now.step; pairs = [] }) }
 {
@@ -49,7 +50,7 @@ fn add_all(
     drift: u32,
 ) -> Result<(), OutOfMemory>
     requires sound { AreSound shapes.now snap.now.bodies }
-    requires drift { drift ≤ 1024 }
+    requires drift { drift ≤ MAX_DRIFT }
     requires empty { raw.old.pairs ≡ [] }
     ensures found { OnOk result (raw.new.pairs ≡ near_of shapes.now drift (centers_of shapes.now snap.now.bodies)) }
     ensures from { raw.new.from ≡ raw.old.from }
@@ -68,7 +69,7 @@ fn add_rows(
     drift: u32,
 ) -> Result<(), OutOfMemory>
     requires centers { AreInside shapes.now centers.now }
-    requires drift { drift ≤ 1024 }
+    requires drift { drift ≤ MAX_DRIFT }
     requires empty { raw.old.pairs ≡ [] }
     ensures found { OnOk result (raw.new.pairs ≡ near_of shapes.now drift centers.now) }
     ensures from { raw.new.from ≡ raw.old.from }
@@ -88,7 +89,7 @@ fn add_row(
     a: u32,
 ) -> Result<(), OutOfMemory>
     requires centers { AreInside shapes.now centers.now }
-    requires drift { drift ≤ 1024 }
+    requires drift { drift ≤ MAX_DRIFT }
     requires sphere { a < sphere_count shapes.now }
     requires before { raw.old.pairs ≡ filter (near shapes.now drift centers.now) (pairs_below shapes.now a) }
     ensures found { OnOk result (raw.new.pairs ≡ filter (near shapes.now drift centers.now) (pairs_below shapes.now (a + 1))) }
@@ -111,7 +112,7 @@ pub fn add_near(
     pair: Pair,
 ) -> Result<(), OutOfMemory>
     requires centers { AreInside shapes.now centers.now }
-    requires drift { drift ≤ 1024 }
+    requires drift { drift ≤ MAX_DRIFT }
     requires first { pair.a < sphere_count shapes.now }
     requires second { pair.b < limit_of shapes.now }
     requires later { pair.a < pair.b }

@@ -5,6 +5,7 @@ ghost use Rattle.dem_num.specs.Vectors.{widened, difference_of, Within};
 ghost use Rattle.dem_model.specs.Motion.{AreInside, IsPair};
 ghost use Rattle.dem_model.specs.Near.{drift_of, reach_of, spheres_near, near as is_near};
 ghost use Rattle.dem_model.specs.Pairs.{sphere_count};
+ghost use Rattle.dem_model.specs.declared.limits.TheConstants.{MAX_DRIFT};
 
 use dem_force::{center, wall_beside};
 use dem_model::{Pair, Steps};
@@ -16,7 +17,7 @@ use std::sync::ledger::Ledger;
 /// How far a sphere may reach in `drift` steps, in u per axis: its radius and how far it may move.
 #[tactic(auto, unfolding(dem_model::specs::Near::reach_of))]
 pub fn reach(shapes: &Shapes, drift: u32, sphere: u32) -> u64
-    requires drift { drift ≤ 1024 }
+    requires drift { drift ≤ MAX_DRIFT }
     requires sphere { sphere < sphere_count shapes.now }
     ensures value { result ≡ reach_of shapes.now drift sphere }
     ensures size { result ≤ 2 ^ 38 }
@@ -27,7 +28,7 @@ pub fn reach(shapes: &Shapes, drift: u32, sphere: u32) -> u64
 /// How far a sphere may move in `drift` steps, in u per axis.
 #[tactic(auto, unfolding(dem_model::specs::Near::drift_of))]
 fn moved(shapes: &Shapes, drift: u32, sphere: u32) -> u64
-    requires drift { drift ≤ 1024 }
+    requires drift { drift ≤ MAX_DRIFT }
     requires sphere { sphere < sphere_count shapes.now }
     ensures value { result ≡ drift_of shapes.now drift sphere }
     ensures size { result ≤ 2 ^ 37 }
@@ -45,7 +46,7 @@ pub fn near<L: Ledger>(
 ) -> bool
     requires pair { IsPair shapes.now pair }
     requires centers { AreInside shapes.now centers.now }
-    requires drift { drift ≤ 1024 }
+    requires drift { drift ≤ MAX_DRIFT }
     ensures value { result ≡ is_near shapes.now drift centers.now pair }
     ensures counted { tests.new ≡ tests.old + 1 }
 {
@@ -58,7 +59,7 @@ pub fn near<L: Ledger>(
 pub fn tested(shapes: &Shapes, centers: &Centers, pair: Pair, drift: u32) -> bool
     requires pair { IsPair shapes.now pair }
     requires centers { AreInside shapes.now centers.now }
-    requires drift { drift ≤ 1024 }
+    requires drift { drift ≤ MAX_DRIFT }
     ensures { result ≡ is_near shapes.now drift centers.now pair }
 {
     let first = center(shapes, centers, pair.a);

@@ -1,5 +1,5 @@
 -- One clump's step: velocity first, then position with the new velocity; spin, then the quaternion; and the limits.
-use Rattle.std.specs.Prelude.{ℕ, ℤ, pos, ◌+ℤ◌, ◌-ℤ◌, ◌*ℤ◌, ◌^◌, Bool, not, ◌||◌, List, Result, Ok, Err, nat_lt, unsigned_abs, slice_get, if◌then◌else◌}
+use Rattle.std.specs.Prelude.{ℕ, ℤ, pos, ◌+ℤ◌, ◌-ℤ◌, ◌*ℤ◌, Bool, not, ◌||◌, List, Result, Ok, Err, nat_lt, unsigned_abs, slice_get, if◌then◌else◌}
 use Rattle.std.specs.List.{list_any}
 use Rattle.std.specs.Option.{option_map_or}
 use Rattle.dem_num.specs.declared.vector.Vec3.{Vec3}

@@ -1,5 +1,5 @@
 -- Bodies that are sound for their clumps, and how far a sphere may move in one step.
-use Rattle.std.specs.Prelude.{ℕ, All, IsTrue, ◌+◌, ◌-◌, ◌/◌, ◌<◌, ◌≡◌, true, List, length}
+use Rattle.std.specs.Prelude.{ℕ, IsTrue, ◌+◌, ◌-◌, ◌/◌, ◌<◌, ◌≡◌, true, List, length}
 use Rattle.dem_num.specs.declared.vector.Vec3.{Vec3}
 use Rattle.dem_num.specs.Vectors.{widened}
 use Rattle.dem_num.specs.Rotations.{arm_of, swing_limit_of}

@@ -7,14 +7,14 @@ use Rattle.dem_outside.proofs.Prefixes.{AppendsPrefix-kept}
 use Rattle.dem_model.specs.SceneValue.{SceneValue}
 use Rattle.dem_model.specs.Step.{step_of}
 use Rattle.dem_model.specs.Plain.{first_state}
-use Rattle.dem_model.specs.Output.{output_of}
+use Rattle.dem_model.specs.Output.{due_text, output_of}
 use Rattle.dem_model.specs.declared.state.State.{State}
 use Rattle.dem_model.specs.declared.state.End.{End}
 use Rattle.dem_model.specs.declared.state.Last.TheVariants.{Passed}
 use Rattle.dem_plain.specs.Run.{Run}
 use Rattle.dem_output.specs.declared.running.RunFault.{RunFault}
 use Rattle.dem_output.specs.declared.running.RunFault.TheVariants.{WriteFault, OutOfMemory}
-use Rattle.dem_output.specs.Running.{due_text, MakesStep, WritesRun}
+use Rattle.dem_output.specs.Running.{MakesStep, WritesRun}
 use Rattle.dem_output.proofs.RunLaw.{step_of-step}
 use Rattle.dem_output.proofs.RunFacts.{StandsAt, StandsAt-start, first-failed, StandsAt-more, StandsAt-failed, StandsAt-front, StandsAt-end, LacksEnd, LacksEnd-kept}
 

@@ -9,12 +9,11 @@ use Rattle.dem_model.specs.SceneValue.{SceneValue}
 use Rattle.dem_model.specs.Step.{step_of}
 use Rattle.dem_model.specs.Plain.{first_state, last_of}
 use Rattle.dem_model.specs.Frames.{last_text}
-use Rattle.dem_model.specs.Output.{output_of}
+use Rattle.dem_model.specs.Output.{due_text, output_of}
 use Rattle.dem_model.specs.declared.state.State.{State}
 use Rattle.dem_model.specs.declared.state.End.{End}
 use Rattle.dem_model.specs.declared.state.Last.{Last}
 use Rattle.dem_model.specs.declared.state.Last.TheVariants.{Done, Passed}
-use Rattle.dem_output.specs.Running.{due_text}
 use Rattle.dem_output.proofs.RunLaw.{by_step, frames_from, last_from, step_of-step, last_of-first, output_of-first}
 
 -- what is still to be written behind this state

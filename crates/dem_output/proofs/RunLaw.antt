@@ -8,13 +8,12 @@ use Rattle.dem_model.specs.SceneValue.{SceneValue}
 use Rattle.dem_model.specs.Step.{Meeting, step_of, step_with, state_with}
 use Rattle.dem_model.specs.Plain.{first_state, state_after, plain_at, end_at, last_among, last_of}
 use Rattle.dem_model.specs.Frames.{state_text, last_text}
-use Rattle.dem_model.specs.Output.{is_due, frame_at, output_of}
+use Rattle.dem_model.specs.Output.{due_text, is_due, frame_at, output_of}
 use Rattle.dem_model.specs.declared.state.Body.{Body}
 use Rattle.dem_model.specs.declared.state.State.{State}
 use Rattle.dem_model.specs.declared.state.End.{End}
 use Rattle.dem_model.specs.declared.state.Last.{Last}
 use Rattle.dem_model.specs.declared.state.Last.TheVariants.{Done, Passed}
-use Rattle.dem_output.specs.Running.{due_text}
 
 -- ---- what is left of a run
 

@@ -1,23 +1,18 @@
 -- What the parts of a run write.
-use Rattle.std.specs.Prelude.{◌≡◌, ℕ, List, [], Option, Result, Ok, Err, None, Some, if◌then◌else◌}
+use Rattle.std.specs.Prelude.{◌≡◌, ℕ, List, Option, Result, Ok, Err, None, Some}
 use Rattle.std.specs.Io.KnownBytes.{Appends, Keeps}
 use Rattle.dem_outside.specs.Faults.{Rose}
 use Rattle.dem_outside.specs.Known.{AppendsPrefix}
 use Rattle.dem_model.specs.SceneValue.{SceneValue}
 use Rattle.dem_model.specs.Step.{step_of}
 use Rattle.dem_model.specs.Plain.{last_of}
-use Rattle.dem_model.specs.Frames.{state_text}
-use Rattle.dem_model.specs.Output.{is_due, output_of}
+use Rattle.dem_model.specs.Output.{due_text, output_of}
 use Rattle.dem_model.specs.declared.state.State.{State}
 use Rattle.dem_model.specs.declared.state.End.{End}
 use Rattle.dem_model.specs.declared.state.Last.{Last}
 use Rattle.dem_plain.specs.Run.{Run}
 use Rattle.dem_output.specs.declared.running.RunFault.{RunFault}
 use Rattle.dem_output.specs.declared.running.RunFault.TheVariants.{WriteFault, OutOfMemory}
-
--- the frame of a state, where it is due
-unfoldable pub due_text : SceneValue → State → List ℕ
-due_text s st = if is_due s st.step then state_text st else []
 
 -- a step of a run and the frame of the new state, where it is due; or the end, or a fault
 abbrev pub MakesStep : Run → Run → (held now : Option (List ℕ)) → (faults faults_now : ℕ) → Result (Option End) RunFault → Type 0

@@ -2,9 +2,9 @@
 ghost use Rattle.std.specs.Prelude.{◌≡◌, ◌≤◌, ◌<◌, length, IfOk};
 ghost use Rattle.dem_outside.specs.Faults.{Counts};
 ghost use Rattle.dem_outside.specs.Known.{PutAppends};
-ghost use Rattle.dem_model.specs.Output.{is_due as is_due_of};
+ghost use Rattle.dem_model.specs.Output.{due_text, is_due as is_due_of};
 ghost use Rattle.dem_model.specs.Frames.{last_text};
-ghost use Rattle.dem_output.specs.Running.{due_text, MakesStep, WritesRun};
+ghost use Rattle.dem_output.specs.Running.{MakesStep, WritesRun};
 ghost use Rattle.dem_output.specs.declared.running.RunFault.TheVariants as faults;
 
 use dem_frame::{WriteFault, write_end, write_state};
@@ -67,7 +67,7 @@ fn step_on<K: Sink>(scene: &Scene, run: &mut PlainRun, out: &mut K) -> Result<Op
 }
 
 // Writes the frame of a state, where it is due.
-#[tactic(auto, unfolding(crate::specs::Running::due_text))]
+#[tactic(auto, unfolding(dem_model::specs::Output::due_text))]
 fn write_due<K: Sink>(scene: &Scene, state: &State, out: &mut K) -> Result<(), WriteFault>
     requires { length state.now.bodies ≤ 16384 }
     ensures count { Counts (K.faults out.old) (K.faults out.new) result }

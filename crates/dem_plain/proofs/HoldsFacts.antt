@@ -29,7 +29,6 @@ use Rattle.dem_model.proofs.LoadFacts.{loads_of-push, length-loads_of, IsLoadOf,
 use Rattle.dem_model.specs.Step.{loads_with}
 use Rattle.dem_force.specs.Loads.{CanGrow, AreLoads}
 use Rattle.dem_plain.specs.declared.met.Met.{Met}
-use Rattle.dem_plain.specs.Run.{AreStored}
 use Rattle.dem_plain.specs.Inside.{Holds, one_apart}
 use Rattle.dem_force.specs.Places.{meeting_with}
 

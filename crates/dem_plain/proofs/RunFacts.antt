@@ -31,37 +31,38 @@ use Rattle.dem_force.specs.Places.{HasPlaces}
 use Rattle.dem_force.specs.Sides.{AreSides}
 use Rattle.dem_force.specs.declared.pushing.spheres.Spheres.{Spheres}
 use Rattle.dem_plain.specs.declared.met.Met.{Met}
-use Rattle.dem_plain.specs.Run.{AreStored}
 use Rattle.dem_plain.specs.Inside.{Advances, Holds, IsAfter, IsNext, IsRun}
 use Rattle.dem_plain.specs.declared.stop.Stop.{Stop}
 use Rattle.dem_plain.specs.declared.stop.Stop.TheVariants.{Ended, OutOfMemory}
 use Rattle.dem_model.specs.Spheres.{spheres_of}
+use Rattle.dem_model.specs.declared.limits.TheConstants.{MAX_DISPLACEMENT}
+use Rattle.dem_force.specs.Stored.{AreStored}
 
--- some bodies in front of a result
-abbrev pub with_front : List Body → Result (List Body) End → Result (List Body) End
-with_front xs (Ok ys) = Ok (xs ++ ys)
-with_front xs (Err e) = Err e
+-- some bodies before those of a result
+abbrev pub with_prefix : List Body → Result (List Body) End → Result (List Body) End
+with_prefix xs (Ok ys) = Ok (xs ++ ys)
+with_prefix xs (Err e) = Err e
 
--- the bodies so far, each sound for its clump, are the front of the result
+-- the bodies so far, each sound for its clump, are a prefix of the result
 pub record AreAdvanced (s : SceneValue) (step : ℕ) (bodies : List Body) (loads : List Load) (k : ℕ) (next : List Body) : Type 0 where
   pub count : length next ≡ k
-  pub front : with_front next (advanced_from s step k (drop k s.clumps) (drop k bodies) (drop k loads)) ≡ advanced_from s step 0 s.clumps bodies loads
+  pub prefix : with_prefix next (advanced_from s step k (drop k s.clumps) (drop k bodies) (drop k loads)) ≡ advanced_from s step 0 s.clumps bodies loads
   pub each : (j : ℕ) → j < k → IsBodyOf s (clump_at s j) (body_at next j)
 
-front_nil : (r : Result (List Body) End) → with_front [] r ≡ r
-front_nil (Ok ys) = refl
-front_nil (Err e) = refl
+prefix_nil : (r : Result (List Body) End) → with_prefix [] r ≡ r
+prefix_nil (Ok ys) = refl
+prefix_nil (Err e) = refl
 
-front_joined : (xs : List Body) (b : Body) (r : Result (List Body) End) → with_front xs (joined (Ok b) r) ≡ with_front (xs ++ b ∷ []) r
+prefix_joined : (xs : List Body) (b : Body) (r : Result (List Body) End) → with_prefix xs (joined (Ok b) r) ≡ with_prefix (xs ++ b ∷ []) r
 unfolding joined
-front_joined xs b (Ok ys) = ap Ok (sym (append_assoc xs (b ∷ []) ys))
-front_joined xs b (Err e) = refl
+prefix_joined xs b (Ok ys) = ap Ok (sym (append_assoc xs (b ∷ []) ys))
+prefix_joined xs b (Err e) = refl
 
 -- nothing has advanced yet
 pub AreAdvanced-none : (s : SceneValue) (step : ℕ) (bodies : List Body) (loads : List Load) (next : List Body) → next ≡ [] → AreAdvanced s step bodies loads 0 next
 AreAdvanced-none s step bodies loads next e = record {
   count = ap length e;
-  front = ap (λ xs. with_front xs (advanced_from s step 0 s.clumps bodies loads)) e ∙ front_nil (advanced_from s step 0 s.clumps bodies loads);
+  prefix = ap (λ xs. with_prefix xs (advanced_from s step 0 s.clumps bodies loads)) e ∙ prefix_nil (advanced_from s step 0 s.clumps bodies loads);
   each = λ j lt. absurd (omega arith);
 }
 
@@ -107,12 +108,12 @@ AreAdvanced-more s step bodies loads k old new b w x lt lb lw ok sound push h =
     let here : ended step k (advance_of s (clump_at s k).t (get_or bodies k b) (get_or loads k w)) ≡ Ok x = ap (ended step k) ok ∙ unfold ended in refl in
     record {
       count = ap length push ∙ length_push old x ∙ omega (arith, h.count);
-      front =
-          ap (λ xs. with_front xs (advanced_from s step (k + 1) (drop (k + 1) s.clumps) (drop (k + 1) bodies) (drop (k + 1) loads))) push
-          ∙ sym (front_joined old x (advanced_from s step (k + 1) (drop (k + 1) s.clumps) (drop (k + 1) bodies) (drop (k + 1) loads)))
-          ∙ ap (λ r. with_front old (joined r (advanced_from s step (k + 1) (drop (k + 1) s.clumps) (drop (k + 1) bodies) (drop (k + 1) loads)))) (sym here)
-          ∙ ap (with_front old) (sym rest)
-          ∙ h.front;
+      prefix =
+          ap (λ xs. with_prefix xs (advanced_from s step (k + 1) (drop (k + 1) s.clumps) (drop (k + 1) bodies) (drop (k + 1) loads))) push
+          ∙ sym (prefix_joined old x (advanced_from s step (k + 1) (drop (k + 1) s.clumps) (drop (k + 1) bodies) (drop (k + 1) loads)))
+          ∙ ap (λ r. with_prefix old (joined r (advanced_from s step (k + 1) (drop (k + 1) s.clumps) (drop (k + 1) bodies) (drop (k + 1) loads)))) (sym here)
+          ∙ ap (with_prefix old) (sym rest)
+          ∙ h.prefix;
       each = λ j below. each_more s k old new x push h.count sound h.each j below;
     }
 
@@ -123,9 +124,9 @@ pub advanced_ends : (s : SceneValue) (step : ℕ) (bodies : List Body) (loads : 
     advanced_from s step 0 s.clumps bodies loads ≡ Err (record { step = step; kind = kind; clump = k })
 advanced_ends s step bodies loads k next b w kind lt lb lw err h =
     let here : ended step k (advance_of s (clump_at s k).t (get_or bodies k b) (get_or loads k w)) ≡ Err (record { step = step; kind = kind; clump = k }) = ap (ended step k) err ∙ unfold ended in refl in
-    sym h.front
-    ∙ ap (with_front next) (rest_from s step k bodies loads b w lt lb lw)
-    ∙ ap (λ r. with_front next (joined r (advanced_from s step (k + 1) (drop (k + 1) s.clumps) (drop (k + 1) bodies) (drop (k + 1) loads)))) here
+    sym h.prefix
+    ∙ ap (with_prefix next) (rest_from s step k bodies loads b w lt lb lw)
+    ∙ ap (λ r. with_prefix next (joined r (advanced_from s step (k + 1) (drop (k + 1) s.clumps) (drop (k + 1) bodies) (drop (k + 1) loads)))) here
     ∙ unfold joined in refl
 
 -- all clumps have advanced
@@ -134,12 +135,12 @@ pub advanced_all : (s : SceneValue) (step : ℕ) (bodies : List Body) (loads : L
 advanced_all s step bodies loads k next e h =
     let none : drop k s.clumps ≡ [] = drop_all k s.clumps (omega arith) in
     let rest : advanced_from s step k (drop k s.clumps) (drop k bodies) (drop k loads) ≡ Ok [] = rw none (unfold advanced_from in refl) in
-    (sym h.front ∙ ap (with_front next) rest ∙ ap Ok (append-nil next), record { count = h.count ∙ e; each = λ j lt. h.each j (omega arith) })
+    (sym h.prefix ∙ ap (with_prefix next) rest ∙ ap Ok (append-nil next), record { count = h.count ∙ e; each = λ j lt. h.each j (omega arith) })
 
 -- what is held of small pushes is within its range
 pub stored_from : (ms : List Meeting) → All (λ (m : Meeting). IsSmall m.push) ms → AreStored (map held_in ms)
 unfolding held_in
-stored_from ms small = All-map (λ (e : Held). Within (widened e.h) (2 ^ 40)) held_in ms (λ k d lt. (small k d lt).h)
+stored_from ms small = All-map (λ (e : Held). Within (widened e.h) MAX_DISPLACEMENT) held_in ms (λ k d lt. (small k d lt).h)
 
 -- the plain step is the step of all meetings
 step_is : (s : SceneValue) (st : State) (met : Met) (r : Result (List Body) End) (centers : List Vec3) → centers ≡ centers_of s st.bodies →
@@ -274,7 +275,7 @@ run_first s shapes spheres bodies held same sound room e none =
       room = room;
       plain = plain_first shapes ∙ ap Some (sym (first_is shapes bodies held here none));
       bodies = subst (AreSound shapes) (sym here) (first_sound shapes sound);
-      held = subst AreStored (sym none) (All-nil (λ (x : Held). Within (widened x.h) (2 ^ 40)));
+      held = subst AreStored (sym none) (All-nil (λ (x : Held). Within (widened x.h) MAX_DISPLACEMENT));
     }
 
 -- the meetings, over the state that their lists are of

@@ -15,7 +15,7 @@ use Rattle.dem_model.specs.declared.state.Pair.{Pair}
 use Rattle.dem_model.specs.declared.state.State.{State}
 use Rattle.dem_force.specs.Places.{HasPlaces}
 use Rattle.dem_force.specs.declared.pushing.spheres.Spheres.{Spheres}
-use Rattle.dem_plain.specs.Run.{AreStored}
+use Rattle.dem_force.specs.Stored.{AreStored}
 use Rattle.dem_plain.specs.declared.met.Met.{Met}
 use Rattle.dem_plain.specs.declared.stop.Stop.{Stop}
 use Rattle.dem_plain.specs.declared.stop.Stop.TheVariants.{Ended, OutOfMemory}

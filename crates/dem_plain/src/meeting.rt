@@ -8,7 +8,7 @@ ghost use Rattle.dem_model.specs.Ranges.{IsSmall};
 ghost use Rattle.dem_model.specs.Step.{held_at, meeting, same_pair};
 ghost use Rattle.dem_force.specs.Places.{meeting_with};
 ghost use Rattle.dem_force.specs.Sides.{AreSides};
-ghost use Rattle.dem_plain.specs.Run.{AreStored};
+ghost use Rattle.dem_force.specs.Stored.{AreStored, IsStored};
 
 use dem_force::{Spheres, pushed};
 use dem_model::{Body, Held, Pair, Push, Steps};
@@ -51,7 +51,7 @@ fn counted<L: Ledger>(
     requires pair { IsPair shapes.now pair }
     requires centers { AreInside shapes.now spheres.now.centers }
     requires sides { AreSides shapes.now bodies.now spheres.now.sides }
-    requires held { IfSome held (λ h. Within (widened h) (2 ^ 40)) }
+    requires held { IsStored held }
     ensures value { option_map (meeting_with pair) result ≡ meeting shapes.now bodies.now spheres.now.centers pair held }
     ensures small { IfSome result IsSmall }
 {
@@ -63,7 +63,7 @@ fn counted<L: Ledger>(
 pub fn displacement(held: &[Held], pair: Pair) -> Option<Vec3>
     requires { AreStored held.now }
     ensures value { result ≡ held_at held.now pair }
-    ensures small { IfSome result (λ h. Within (widened h) (2 ^ 40)) }
+    ensures small { IsStored result }
 {
     for entry in held {
         if is_same(entry.pair, pair) {

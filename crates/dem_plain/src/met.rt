@@ -9,7 +9,7 @@ ghost use Rattle.dem_model.specs.declared.state.Held.{Held};
 ghost use Rattle.dem_model.specs.declared.state.Pair.{Pair};
 ghost use Rattle.dem_force.specs.Loads.{AreLoads};
 ghost use Rattle.dem_force.specs.Sides.{AreSides};
-ghost use Rattle.dem_plain.specs.Run.{AreStored};
+ghost use Rattle.dem_force.specs.Stored.{AreStored};
 ghost use Rattle.dem_plain.specs.Inside.{Holds, one_apart};
 
 use crate::meeting::push_of;

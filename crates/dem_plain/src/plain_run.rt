@@ -5,7 +5,8 @@ ghost use Rattle.dem_model.specs.Motion.{AreInside, AreSound};
 ghost use Rattle.dem_model.specs.Plain.{first_state, plain_at};
 ghost use Rattle.dem_model.specs.Centers.{centers_of};
 ghost use Rattle.dem_force.specs.Sides.{AreSides};
-ghost use Rattle.dem_plain.specs.Run.{AreStored, Run, StepsPlain};
+ghost use Rattle.dem_force.specs.Stored.{AreStored};
+ghost use Rattle.dem_plain.specs.Run.{Run, StepsPlain};
 ghost use Rattle.dem_plain.specs.Inside.{IsAfter, IsRun};
 
 use crate::advancing::advanced;

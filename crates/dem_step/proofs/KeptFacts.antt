@@ -21,14 +21,15 @@ use Rattle.dem_model.specs.declared.state.Pair.{Pair}
 use Rattle.dem_model.specs.declared.state.State.{State}
 use Rattle.dem_model.specs.Counts.{pair_count}
 use Rattle.dem_shape.specs.declared.snapshot.Snapshot.{Snapshot}
+use Rattle.dem_model.specs.declared.limits.TheConstants.{MAX_DRIFT}
+use Rattle.dem_force.specs.Stored.{AreStored, IsStored}
 use Rattle.dem_list.specs.Ascending.{Pairs, IsAscending}
 use Rattle.dem_list.proofs.AscendingFacts.{IsAscending-none}
 use Rattle.dem_hist.specs.Carrying.{HeldByPlace}
 use Rattle.dem_margin.specs.NearList.{IsNearListOf}
 use Rattle.dem_hist.proofs.CarryFacts.{length-carried}
-use Rattle.dem_plain.specs.Run.{AreStored}
 use Rattle.dem_plain.proofs.RunFacts.{stored_from, plain_first, first_sound}
-use Rattle.dem_step.specs.Contacts.{ArePairs, IsStored, IsHeldIn}
+use Rattle.dem_step.specs.Contacts.{ArePairs, IsHeldIn}
 use Rattle.dem_step.specs.Stepper.{state_at, IsSnapshotOfRun, IsListOfRun}
 use Rattle.dem_step.specs.Inside.{IsStepper, HaveMet}
 use Rattle.dem_step.proofs.ListFacts.{kept_of-take, stored-within, carried-within, agrees-carried, only-carried}
@@ -123,7 +124,7 @@ unfolding kept_of
 none_kept = refl
 
 -- at the start
-pub stepper-first : (s : SceneValue) (drift : ℕ) (bodies : List Body) → IsSound s → drift ≤ 1024 → bodies ≡ (first_state s).bodies →
+pub stepper-first : (s : SceneValue) (drift : ℕ) (bodies : List Body) → IsSound s → drift ≤ MAX_DRIFT → bodies ≡ (first_state s).bodies →
     IsStepper s drift 0 false bodies (contacts_of (record { from = 0; pairs = [] }) [])
 stepper-first s drift bodies sound le e =
     let is : state_at s 0 ≡ first_state s = state_at-is s 0 (first_state s) (plain_first s) in

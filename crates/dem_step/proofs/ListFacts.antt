@@ -23,11 +23,12 @@ use Rattle.dem_model.specs.declared.state.Pair.{Pair}
 use Rattle.dem_model.specs.declared.state.State.{State}
 use Rattle.dem_model.proofs.CountFacts.{pair_count-append, pair_count-all}
 use Rattle.dem_model.specs.Counts.{pair_count}
-use Rattle.dem_plain.specs.Run.{AreStored}
+use Rattle.dem_model.specs.declared.limits.TheConstants.{MAX_DISPLACEMENT}
+use Rattle.dem_force.specs.Stored.{AreStored, IsStored}
 use Rattle.dem_list.proofs.AscendingFacts.{same_pair-equal}
 use Rattle.dem_hist.proofs.CarryFacts.{kept_of-cons, same_pair-itself}
 use Rattle.dem_margin.proofs.PairsFacts.{all_pairs-pairs}
-use Rattle.dem_step.specs.Contacts.{ArePairs, IsStored, IsHeldIn}
+use Rattle.dem_step.specs.Contacts.{ArePairs, IsHeldIn}
 use Rattle.dem_step.specs.Inside.{displacement_of}
 
 -- ---- what is held of the pairs of a list
@@ -61,15 +62,15 @@ kept_of-take (p ∷ ps) (e ∷ es) = ap (cons_option (option_map (held_of p) e))
 
 -- a displacement that may be stored
 abbrev Fits : Vec3 → Type 0
-Fits h = Within (widened h) (2 ^ 40)
+Fits h = Within (widened h) MAX_DISPLACEMENT
 
 -- an entry that may be stored
 abbrev EntryFits : Option Vec3 → Type 0
-EntryFits e = IfSome e (λ h. Within (widened h) (2 ^ 40))
+EntryFits e = IsStored e
 
 -- what is held of a pair, within the range
 abbrev HeldFits : Held → Type 0
-HeldFits e = Within (widened e.h) (2 ^ 40)
+HeldFits e = Within (widened e.h) MAX_DISPLACEMENT
 
 -- one entry more is held within the range
 cons_stored : (p : Pair) (e : Option Vec3) (hs : List Held) → EntryFits e → AreStored hs → AreStored (cons_option (option_map (held_of p) e) hs)
@@ -100,7 +101,7 @@ stored-within (p ∷ ps) (e ∷ es) n h =
     All-cons EntryFits e es parts.0 (stored-within ps es (omega arith) parts.1)
 
 -- what is held of one pair is within the range
-pub held_at-within : (es : List Held) (p : Pair) → AreStored es → IfSome (held_at es p) (λ h. Within (widened h) (2 ^ 40))
+pub held_at-within : (es : List Held) (p : Pair) → AreStored es → IsStored (held_at es p)
 unfolding held_at
 held_at-within [] p all = tt
 held_at-within (e ∷ es) p all =

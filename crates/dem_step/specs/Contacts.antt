@@ -1,7 +1,6 @@
 -- A list in use, and what is held of its pairs.
-use Rattle.std.specs.Prelude.{ℕ, ◌≡◌, ◌^◌, ◌≤◌, List, length, All, IfSome, Option, Some}
+use Rattle.std.specs.Prelude.{ℕ, ◌≡◌, ◌≤◌, List, length, All, Option, Some}
 use Rattle.dem_num.specs.declared.vector.Vec3.{Vec3}
-use Rattle.dem_num.specs.Vectors.{widened, Within}
 use Rattle.dem_model.specs.SceneValue.{SceneValue}
 use Rattle.dem_model.specs.Carry.{kept_of}
 use Rattle.dem_model.specs.Motion.{IsPair}
@@ -10,6 +9,7 @@ use Rattle.dem_model.specs.declared.state.Held.{Held}
 use Rattle.dem_model.specs.declared.state.Pair.{Pair}
 use Rattle.dem_model.specs.declared.state.State.{State}
 use Rattle.dem_model.specs.Counts.{pair_count, most_pairs}
+use Rattle.dem_force.specs.Stored.{IsStored}
 use Rattle.dem_list.specs.Ascending.{IsAscending}
 use Rattle.dem_hist.specs.Carrying.{HeldByPlace}
 
@@ -17,10 +17,6 @@ use Rattle.dem_hist.specs.Carrying.{HeldByPlace}
 pub record ArePairs (s : SceneValue) (ps : List Pair) : Type 0 where
   pub each : All (IsPair s) ps
   pub few : (c : ℕ) → pair_count s c ps ≤ most_pairs
-
--- a displacement is within its range, where there is one
-abbrev pub IsStored : Option Vec3 → Type 0
-IsStored e = IfSome e (λ h. Within (widened h) (2 ^ 40))
 
 -- a list in use: its pairs are pairs of the scene and ascend, and there is an entry for each, within its range
 pub record AreContacts (s : SceneValue) (contacts : HeldByPlace) : Type 0 where

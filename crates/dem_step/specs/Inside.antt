@@ -14,6 +14,7 @@ use Rattle.dem_model.specs.declared.state.Body.{Body}
 use Rattle.dem_model.specs.declared.state.Held.{Held}
 use Rattle.dem_model.specs.declared.state.Pair.{Pair}
 use Rattle.dem_model.specs.Step.{loads_with}
+use Rattle.dem_model.specs.declared.limits.TheConstants.{MAX_DRIFT}
 use Rattle.dem_force.specs.Places.{HasPlaces}
 use Rattle.dem_force.specs.declared.pushing.spheres.Spheres.{Spheres}
 use Rattle.dem_hist.specs.Carrying.{HeldByPlace}
@@ -27,7 +28,7 @@ from_of listed from = if listed then Some from else None
 -- what a run on lists keeps: it stands at a state of the plain run, with its bodies; its list is of that run, and has the displacements that the next step needs, and no other
 pub record IsStepper (s : SceneValue) (drift step : ℕ) (listed : Bool) (bodies : List Body) (contacts : HeldByPlace) : Type 0 where
   pub scene : IsSound s
-  pub drift_le : drift ≤ 1024
+  pub drift_le : drift ≤ MAX_DRIFT
   pub plain : plain_at s step ≡ Some (state_at s step)
   pub bodies_are : bodies ≡ (state_at s step).bodies
   pub sound : AreSound s bodies

@@ -1,4 +1,4 @@
-//! The meetings of a step on a list: each pair of the list once, and no other.
+//! The meetings of a step on a list, pair by pair.
 
 ghost use Rattle.std.specs.Prelude.{◌≡◌, ◌+◌, ◌^◌, ◌<◌, ◌≤◌, length, All, IfSome, replicate};
 ghost use Rattle.dem_num.specs.Vectors.{widened, Within};
@@ -6,7 +6,8 @@ ghost use Rattle.dem_model.specs.Motion.{AreInside, IsPair};
 ghost use Rattle.dem_model.specs.Step.{meeting, no_load};
 ghost use Rattle.dem_force.specs.Loads.{AreLoads};
 ghost use Rattle.dem_force.specs.Sides.{AreSides};
-ghost use Rattle.dem_step.specs.Contacts.{ArePairs, IsStored, held_by};
+ghost use Rattle.dem_force.specs.Stored.{IsStored};
+ghost use Rattle.dem_step.specs.Contacts.{ArePairs, held_by};
 ghost use Rattle.dem_step.specs.Inside.{loads_after, displacement_of, IsSmallMeeting, HaveMet};
 
 use dem_force::{Spheres, add_push, pushed};
@@ -69,7 +70,7 @@ fn meet<L: Ledger>(
     requires pair { IsPair shapes.now pair }
     requires centers { AreInside shapes.now spheres.now.centers }
     requires sides { AreSides shapes.now bodies.now spheres.now.sides }
-    requires held { IfSome held (λ h. Within (widened h) (2 ^ 40)) }
+    requires held { IsStored held }
     requires loads { AreLoads shapes.now loads.old }
     ensures loads { loads.new ≡ loads_after shapes.now loads.old (meeting shapes.now bodies.now spheres.now.centers pair held) }
     ensures entry { result ≡ displacement_of (meeting shapes.now bodies.now spheres.now.centers pair held) }

@@ -5,6 +5,7 @@ ghost use Rattle.dem_model.specs.Carry.{Agrees};
 ghost use Rattle.dem_model.specs.Plain.{plain_at};
 ghost use Rattle.dem_model.specs.Sound.{IsBodyOf};
 ghost use Rattle.dem_model.specs.Step.{clump_at};
+ghost use Rattle.dem_model.specs.declared.limits.TheConstants.{MAX_DRIFT};
 ghost use Rattle.dem_margin.specs.NearList.{IsNearListOf};
 ghost use Rattle.dem_step.specs.Contacts.{AreContacts, held_by, IsHeldIn};
 ghost use Rattle.dem_step.specs.Stepper.{
@@ -20,8 +21,7 @@ ghost use Rattle.dem_step.specs.Stepper.{
 
 use crate::advancing::advance_all;
 use crate::meeting::meet_all;
-use crate::spheres::Spheres;
-use dem_force::no_loads;
+use dem_force::{Spheres, no_loads};
 use dem_hist::Contacts;
 use dem_list::PairList;
 use dem_model::{Body, End, List, Load, OutOfMemory, Steps};
@@ -61,7 +61,7 @@ impl<'s> Model for Dyn<'s> {
 impl<'s> Dyn<'s> {
     /// The run of a scene at its first state, without a list; `drift` is the greatest age of a list, in steps.
     pub fn new(alloc: Global, shapes: &'s Shapes<'s>, drift: u32) -> Result<Dyn<'s>, OutOfMemory>
-        requires { drift ≤ 1024 }
+        requires { drift ≤ MAX_DRIFT }
         ensures { IfOk result (Begins shapes.now drift) }
     {
         let scene = shapes.scene();
@@ -159,7 +159,7 @@ impl<'s> Dyn<'s> {
     /// The greatest age of a list, in steps.
     pub fn drift(&self) -> u32
         ensures value { result ≡ self.now.drift }
-        ensures small { result ≤ 1024 }
+        ensures small { result ≤ MAX_DRIFT }
     {
         self.drift
     }

@@ -1,6 +1,7 @@
 //! One trial: a run on lists beside the plain run of a scene.
 
 ghost use Rattle.std.specs.Prelude.{◌≡◌, ◌<◌, ◌≤◌};
+ghost use Rattle.dem_model.specs.declared.limits.TheConstants.{MAX_DRIFT};
 
 use crate::listing::{near_list, take};
 use crate::report::Report;
@@ -15,7 +16,7 @@ use std::sync::ledger::{Blank, Ledger};
 
 /// Tries a scene with a drift limit.
 pub fn trial(alloc: Global, scene: &Scene, drift: u32) -> Result<Report, OutOfMemory>
-    requires { drift ≤ 1024 }
+    requires { drift ≤ MAX_DRIFT }
 {
     let shapes = Shapes::new(alloc, scene)?;
     let mut plain = PlainRun::new(alloc, scene)?;

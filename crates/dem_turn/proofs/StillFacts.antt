@@ -1,6 +1,6 @@
 -- A vector of zeros stays one, however it is turned.
-use Rattle.std.proofs.Common.{◌≡◌, ℕ, ℤ, pos, ◌+◌, ◌*◌, ◌≤◌, arith, true, refl, sym, ap, ◌∙◌, unsigned_abs}
-use Rattle.std.specs.Prelude.{◌+ℤ◌, ◌*ℤ◌, ◌&&◌, ◌==◌}
+use Rattle.std.proofs.Common.{◌≡◌, ℤ, pos, arith, true, refl, ap, ◌∙◌, unsigned_abs}
+use Rattle.std.specs.Prelude.{◌&&◌, ◌==◌}
 use Rattle.std.proofs.lemmas.Bool.{and_parts, eqb-true}
 use Rattle.dem_num.specs.declared.vector.Wide3.{Wide3}
 use Rattle.dem_num.specs.declared.vector.Rows.{Rows}

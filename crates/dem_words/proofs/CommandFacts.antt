@@ -48,7 +48,7 @@ by_kind words k (inl memory) = subst (λ x. Matches words (Err (fault_by x))) (s
 by_kind words kinds.OutOfMemory (inr among) = tt
 by_kind words k (inr among) = refused words k among
 
--- and refuses the words that it has none of, unless memory was wanting
+-- and refuses the words that it has none of, unless there was no memory
 pub refused_by : (c : Command) (words : List Text) (e : Error) (fault : WordFault) → app_of c ≡ command → fault ≡ fault_by (kind_of e)
     → (is_simple_and_free (app_of c) ≡ true → HasKind (fault_of (app_of c) words) e) → Matches words (Err fault)
 refused_by c words e fault same is fails =

@@ -38,7 +38,7 @@ words_of words = do
   rows ← matches (texts words)
   order_of rows
 
--- a reading gives what the definition has, Usage where that has nothing; want of memory tells nothing
+-- a reading gives what the definition has, Usage where that has nothing; out of memory tells nothing
 abbrev pub Reads : {A : Type 0} → Option A → Result A WordFault → Type 0
 Reads meaning (Ok x) = meaning ≡ Some x
 Reads meaning (Err Usage) = meaning ≡ None

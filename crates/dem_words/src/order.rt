@@ -89,7 +89,7 @@ impl Model for Order {
 pub enum WordFault {
     /// The words are no good.
     Usage,
-    /// Memory was wanting.
+    /// There was no memory.
     OutOfMemory,
 }
 

@@ -6,8 +6,10 @@ ghost use Rattle.dem_num.specs.Vectors.{widened, narrowed, no_vector, Within};
 ghost use Rattle.dem_model.specs.Motion.{AreInside, IsPair};
 ghost use Rattle.dem_model.specs.Ranges.{IsSmall};
 ghost use Rattle.dem_model.specs.Step.{meeting};
+ghost use Rattle.dem_model.specs.declared.limits.TheConstants.{MAX_DISPLACEMENT};
 ghost use Rattle.dem_force.specs.Places.{meeting_with};
 ghost use Rattle.dem_force.specs.Sides.{AreSides};
+ghost use Rattle.dem_force.specs.Stored.{IsStored};
 
 use crate::pushing::side_list::push_from;
 use crate::pushing::spheres::Spheres;
@@ -29,7 +31,7 @@ pub fn pushed<L: Ledger>(
     requires pair { IsPair shapes.now pair }
     requires centers { AreInside shapes.now spheres.now.centers }
     requires sides { AreSides shapes.now bodies.now spheres.now.sides }
-    requires held { IfSome held (λ h. Within (widened h) (2 ^ 40)) }
+    requires held { IsStored held }
     ensures value { option_map (meeting_with pair) result ≡ meeting shapes.now bodies.now spheres.now.centers pair held }
     ensures small { IfSome result IsSmall }
     ensures counted { tests.new ≡ tests.old + 1 }
@@ -42,9 +44,9 @@ pub fn pushed<L: Ledger>(
 
 /// A displacement, or none.
 fn or_none(held: Option<Vec3>) -> Vec3
-    requires { IfSome held (λ h. Within (widened h) (2 ^ 40)) }
+    requires { IsStored held }
     ensures value { result ≡ unwrap_or held (narrowed no_vector) }
-    ensures size { Within (widened result) (2 ^ 40) }
+    ensures size { Within (widened result) MAX_DISPLACEMENT }
 {
     match held {
         Some(h) => h,

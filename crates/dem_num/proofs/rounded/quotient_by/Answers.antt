@@ -1,4 +1,4 @@
-use Rattle.std.proofs.Common.{◌*◌, ◌/◌, ◌^◌, ◌<◌, ◌≤◌, arith}
+use Rattle.std.proofs.Common.{◌*◌, ◌/◌, ◌≤◌, arith}
 use Rattle.dem_num.proofs.ProductBounds.{part_le}
 use Rattle.dem_num.proofs.rounded.quotient_by.Goals as goal
 

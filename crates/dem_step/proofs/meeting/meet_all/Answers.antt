@@ -5,6 +5,7 @@ use Rattle.dem_num.specs.declared.vector.Vec3.{Vec3}
 use Rattle.dem_num.specs.Vectors.{widened, Within}
 use Rattle.dem_model.specs.Motion.{IsPair}
 use Rattle.dem_model.specs.Step.{held_at}
+use Rattle.dem_force.specs.Stored.{IsStored}
 use Rattle.dem_list.specs.Ascending.{IsAscending, Pairs}
 use Rattle.dem_hist.proofs.CarryFacts.{entry-here}
 use Rattle.dem_step.specs.Contacts.{held_by}
@@ -23,7 +24,7 @@ meet-requires-clause-pair g c =
 
 pub meet-requires-clause-held : goal.meet-requires-clause-held
 meet-requires-clause-held g c =
-    all-read (λ (e : Option Vec3). IfSome e (λ h. Within (widened h) (2 ^ 40))) c.args.contacts.now.entries c.loop-i.i c.held-held.result c.requires.within c.held-held.ensures
+    all-read (λ (e : Option Vec3). IsStored e) c.args.contacts.now.entries c.loop-i.i c.held-held.result c.requires.within c.held-held.ensures
 
 pub meet-requires-clause-loads : goal.meet-requires-clause-loads
 meet-requires-clause-loads g c =

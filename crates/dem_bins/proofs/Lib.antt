@@ -1,0 +1,12 @@
+pub mod SumFacts
+pub mod ListFacts
+pub mod KeyFacts
+pub mod CountFacts
+pub mod RoomFacts
+pub mod BlockFacts
+pub mod CellFacts
+pub mod WalkFacts
+pub mod NearFacts
+pub mod BoundFacts
+pub mod PlanFacts
+pub mod FaceFacts

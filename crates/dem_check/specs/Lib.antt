@@ -1,0 +1,4 @@
+pub mod Rows
+pub mod Comparisons
+pub mod Verdicts
+pub mod Cuts

@@ -1,0 +1,4 @@
+pub mod WordFacts
+pub mod ListFacts
+pub mod EdgeFacts
+pub mod MadeFacts

@@ -1,0 +1,6 @@
+pub mod KindFacts
+pub mod CycleFacts
+pub mod SeatFacts
+pub mod LawFacts
+pub mod SampleFacts
+pub mod EventFacts

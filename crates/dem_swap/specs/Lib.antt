@@ -1,0 +1,4 @@
+pub mod ExchangeEvents
+pub mod Cycle
+pub mod Seats
+pub mod Sample

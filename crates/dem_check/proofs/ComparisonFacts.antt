@@ -1,15 +1,19 @@
 -- What a put does to a comparison, and what a comparison comes to.
-use Rattle.std.proofs.Common.{◌≡◌, ℕ, zero, suc, ◌+◌, ◌-◌, ◌≤◌, ◌<◌, ◌==◌, ◌⊎◌, inl, inr, ⊎_elim, Bool, true, false, List, [], ◌∷◌, ◌++◌, length, take, drop, Option, None, Some, slice_get, option_map, refl, sym, ap, ◌∙◌, subst, arith, append_assoc, append-nil, length-append, true≢false}
+use Rattle.std.proofs.Common.{◌≡◌, ℕ, zero, suc, ◌+◌, ◌-◌, ◌≤◌, ◌<◌, ◌==◌, ◌⊎◌, inl, inr, ⊎_elim, Bool, true, false, List, [], ◌∷◌, ◌++◌, length, take, drop, Option, None, Some, slice_get, option_map, refl, sym, ap, ◌∙◌, subst, arith, append_assoc, append-nil, length-append, true≢false, get_or, Result}
 use Rattle.std.proofs.Math.Seq.{take-add, take-length}
 use Rattle.std.proofs.lemmas.List.{drop-take, drop_at, take-append-drop, take_all, take_more, take_rest, length-take-le}
 use Rattle.std.proofs.lemmas.Bool.{eqb-true}
 use Rattle.std.proofs.lemmas.Option.{slice_get_within, get_or_from_slice_get}
 use Rattle.dem_check.specs.Rows.{line_of, rows_of}
-use Rattle.dem_check.specs.Comparisons.{Comparison, IsComparison, held_of}
+use Rattle.dem_check.specs.Comparisons.{AreBytes, Comparison, IsComparison, held_of, marked}
 use Rattle.dem_check.specs.Cuts.{HasNoNewline, IsCut}
 use Rattle.dem_check.specs.Verdicts.{Checks, DiffersFirst, line_at}
 use Rattle.dem_check.specs.declared.verdict.Line.{Line}
+use Rattle.dem_check.specs.declared.verdict.Verdict.{Verdict}
 use Rattle.dem_check.specs.declared.verdict.Verdict.TheVariants.{Same, Differs}
+use Rattle.dem_model.specs.declared.list.OutOfMemory.{OutOfMemory}
+use Rattle.dem_outside.specs.Faults.{Rose}
+use Rattle.std.specs.Prelude.{IfOk}
 use Rattle.dem_check.proofs.LineFacts.{as_line, behind, differs, has-row, line-ended, line-plain, plain-append, rows-differ}
 
 -- ---- reading a list behind a place
@@ -64,6 +68,7 @@ module _ (c : Comparison) (is : IsComparison c) (going : c.whole ≡ false) (pie
   -- a piece without a newline
   pub kept-going : (faults : ℕ) → faults ≡ c.faults → HasNoNewline (take end piece) → IsComparison (record c { rest = c.rest ++ take end piece; faults = faults })
   kept-going faults same plain = record {
+    bytes = is.bytes;
     within = is.within;
     parted = parted-more c.rest refl;
     ended = λ whole. absurd (true≢false (sym whole ∙ going));
@@ -77,12 +82,13 @@ module _ (c : Comparison) (is : IsComparison c) (going : c.whole ≡ false) (pie
   kept-ended n faults size below line newline =
       let row : take end piece ≡ line_of piece ++ 10 ∷ [] = ap (λ k. take k piece) size ∙ take-newline n piece newline ∙ ap (λ l. l ++ 10 ∷ []) line in
       record {
+        bytes = is.bytes;
         within = is.within;
         parted = parted-more c.rest refl;
         ended = λ _. (
-            c.rest ++ line_of piece,
-            ap (λ l. c.rest ++ l) row ∙ sym (append_assoc c.rest (line_of piece) (10 ∷ [])),
-            plain-append c.rest (line_of piece) (is.going going) (line-plain piece),
+          c.rest ++ line_of piece,
+          ap (λ l. c.rest ++ l) row ∙ sym (append_assoc c.rest (line_of piece) (10 ∷ [])),
+          plain-append c.rest (line_of piece) (is.going going) (line-plain piece),
         );
         going = λ whole. absurd (true≢false whole);
         stops = inr (inl refl);
@@ -189,3 +195,59 @@ module _ (c : Comparison) (is : IsComparison c) where
 -- a list whose length is tested to be 0 is empty
 pub is-nil : (xs : List ℕ) → (length xs == 0) ≡ true → xs ≡ []
 is-nil xs e = none-left xs (eqb-true (length xs) 0 e)
+
+-- ---- the mark
+
+-- more behind the mark
+pub marked-more : (text held more now : List ℕ) → now ≡ held ++ more → text ++ 256 ∷ now ≡ (text ++ 256 ∷ held) ++ more
+marked-more text held more now is = ap (λ l. text ++ 256 ∷ l) is ∙ sym (append_assoc text (256 ∷ held) more)
+
+pub bytes-from : (xs : List ℕ) → ((i : ℕ) → get_or xs i 0 < 256) → AreBytes xs
+bytes-from [] each = tt
+bytes-from (x ∷ xs) each = (each 0, bytes-from xs (λ i. each (suc i)))
+
+tail-of : List ℕ → List ℕ
+tail-of [] = []
+tail-of (x ∷ xs) = xs
+
+head-or : List ℕ → ℕ
+head-or [] = 0
+head-or (x ∷ xs) = x
+
+-- what stands before the mark and behind it can be told
+pub unmarked : (a b xs ys : List ℕ) → AreBytes a → AreBytes b → a ++ 256 ∷ xs ≡ b ++ 256 ∷ ys → (a ≡ b) × (xs ≡ ys)
+unfolding tail-of head-or
+unmarked [] [] xs ys p q e = (refl, ap tail-of e)
+unmarked [] (y ∷ b) xs ys p q e = absurd (let same : 256 ≡ y = ap head-or e in omega (arith, same, q.0))
+unmarked (x ∷ a) [] xs ys p q e = absurd (let same : x ≡ 256 = ap head-or e in omega (arith, same, p.0))
+unmarked (x ∷ a) (y ∷ b) xs ys p q e =
+    let rest = unmarked a b xs ys p.1 q.1 (ap tail-of e) in
+    let same : x ≡ y = ap head-or e in
+    (ap (λ z. z ∷ a) same ∙ ap (λ l. y ∷ l) rest.0, rest.1)
+
+-- ---- the run
+
+-- the comparison before the run
+abbrev pub nothing_put : List ℕ → Comparison
+nothing_put text = record { text = text; at = 0; rest = []; whole = false; short = false; faults = 0 }
+
+module _ (text output : List ℕ) (out : Comparison) (r : Result Verdict OutOfMemory) (mine : AreBytes text) (its : AreBytes out.text)
+    (verdict : (more : List ℕ) → (more ≡ []) ⊎ (out.whole ≡ true) → IfOk r (Checks out.text (held_of out ++ more))) where
+  -- the whole output was put
+  pub finished : marked out ≡ marked (nothing_put text) ++ output → IfOk r (Checks text output)
+  finished put =
+      let parts = unmarked out.text text (held_of out) output its mine (put ∙ append_assoc text (256 ∷ []) output) in
+      subst (λ (p : List ℕ × List ℕ). IfOk r (Checks p.0 p.1)) (λ j. (parts.0 j, (append-nil (held_of out) ∙ parts.1) j)) (verdict [] (inl refl))
+
+  -- the run was stopped at a row that differs
+  pub stopped : (faults : ℕ) → faults ≡ 0 → Rose faults out.faults → (out.faults ≡ 0) ⊎ ((out.whole ≡ true) ⊎ (out.short ≡ true)) → out.short ≡ false
+      → (prefix rest : List ℕ) → prefix ++ rest ≡ output → marked out ≡ marked (nothing_put text) ++ prefix → IfOk r (Checks text output)
+  stopped faults none rose stops long prefix rest all put =
+      let parts = unmarked out.text text (held_of out) prefix its mine (put ∙ append_assoc text (256 ∷ []) prefix) in
+      let whole : out.whole ≡ true = ended stops in
+      subst (λ (p : List ℕ × List ℕ). IfOk r (Checks p.0 p.1)) (λ j. (parts.0 j, (ap (λ l. l ++ rest) parts.1 ∙ all) j)) (verdict rest (inr whole))
+    where
+      ended : (out.faults ≡ 0) ⊎ ((out.whole ≡ true) ⊎ (out.short ≡ true)) → out.whole ≡ true
+      ended (inl zero-faults) = absurd (let more = rose.more in omega (arith, none, zero-faults, more))
+      ended (inr (inl whole)) = whole
+      ended (inr (inr short)) = absurd (true≢false (sym short ∙ long))

@@ -2,7 +2,7 @@
 ghost use Rattle.std.specs.Prelude.{◌≡◌, ◌≤◌, ◌<◌, ◌+◌, ◌⊎◌, ℕ, List as Seq, [], ◌∷◌, ◌++◌, true, false, length, take, slice_get, Some, IfOk};
 ghost use Rattle.dem_outside.specs.Faults.{Counts};
 ghost use Rattle.dem_outside.specs.Known.{PutAppends};
-ghost use Rattle.dem_check.specs.Comparisons.{Comparison, held_of};
+ghost use Rattle.dem_check.specs.Comparisons.{AreBytes, Comparison, held_of, marked};
 ghost use Rattle.dem_check.specs.Verdicts.{Checks};
 
 use crate::bytes::{common, line_len};
@@ -51,7 +51,9 @@ impl<'t> Comparing<'t> {
 
     /// Whether there was no memory for the row that differs.
     pub(crate) fn is_short(&self) -> bool
-        ensures { result ≡ self.now.short }
+        ensures value { result ≡ self.now.short }
+        ensures bytes { AreBytes self.now.text }
+        ensures stops { (self.now.faults ≡ 0) ⊎ ((self.now.whole ≡ true) ⊎ (self.now.short ≡ true)) }
     {
         self.short
     }
@@ -60,7 +62,7 @@ impl<'t> Comparing<'t> {
     fn pass(&mut self, piece: &[u8]) -> usize
         ensures within { result ≤ length piece.now }
         ensures moved { self.new ≡ record self.old { at = self.old.at + result } }
-        ensures held { held_of self.new ≡ held_of self.old ++ take result piece.now }
+        ensures held { marked self.new ≡ marked self.old ++ take result piece.now }
         ensures parts { result < length piece.now → self.new.rest ≡ []
             → slice_get self.new.text self.new.at ≡ slice_get piece.now result → ⊥ }
     {
@@ -76,7 +78,7 @@ impl<'t> Comparing<'t> {
     fn keep(&mut self, piece: &[u8]) -> Result<(), Failed>
         requires { self.old.rest ≡ [] → slice_get self.old.text self.old.at ≡ slice_get piece.now 0 → ⊥ }
         ensures count { Counts self.old.faults self.new.faults result }
-        ensures appended { PutAppends (Some (held_of self.old)) (Some (held_of self.new)) result piece.now }
+        ensures appended { PutAppends (Some (marked self.old)) (Some (marked self.new)) result piece.now }
     {
         if self.whole {
             self.faults = self.faults.saturating_add(1);
@@ -120,7 +122,7 @@ impl<'t> Comparing<'t> {
 }
 
 impl Sink for Comparing<'_> {
-    ghost held = { λ c. Some (held_of c) };
+    ghost held = { λ c. Some (marked c) };
 
     ghost faults = { λ c. c.faults };
 

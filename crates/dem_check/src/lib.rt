@@ -7,11 +7,13 @@
 #![tactic(auto)]
 
 mod bytes;
-
+mod checking;
 mod comparing;
 mod rows;
 mod verdict;
 
-
+pub use checking::check;
 pub use verdict::{Line, Verdict};
 
+#[cfg(test)]
+mod tests;

@@ -78,7 +78,6 @@ fn takes_the_greatest_numbers(rt: HostRuntime) -> Result<(), Fail> {
 fn refuses_what_the_command_refuses(rt: HostRuntime) -> Result<(), Fail> {
     for words in [
         ["dem"].as_slice(),
-        [].as_slice(),
         ["dem", "plain", "more"].as_slice(),
         ["dem", "--help"].as_slice(),
         ["dem", "plain", "-h"].as_slice(),

@@ -1,10 +1,10 @@
 use Rattle.std.proofs.Common.{◌≡◌, ◌∙◌, ◌+◌, ◌++◌, [], true, take, drop, sym, ap, subst, refl, arith}
 use Rattle.std.specs.Prelude.{slice_get}
 use Rattle.std.proofs.lemmas.List.{take-append-drop}
-use Rattle.dem_check.specs.Comparisons.{Comparison, IsComparison, held_of}
+use Rattle.dem_check.specs.Comparisons.{Comparison, IsComparison, marked}
 use Rattle.dem_check.specs.Cuts.{HasNoNewline}
 use Rattle.dem_check.proofs.LineFacts.{line-plain}
-use Rattle.dem_check.proofs.ComparisonFacts.{held-kept, kept-going, kept-ended}
+use Rattle.dem_check.proofs.ComparisonFacts.{held-kept, marked-more, kept-going, kept-ended}
 use Rattle.dem_check.proofs.comparing.Comparing.keep.Goals as goal
 
 pub invariant_of-self-then-n-piece : goal.invariant_of-self-then-n-piece
@@ -29,9 +29,10 @@ returns-then-n-piece-clause-appended c = (
   take c.min-end.result c.args.piece.now,
   drop c.min-end.result c.args.piece.now,
   take-append-drop c.min-end.result c.args.piece.now,
-  ap (λ r. take c.self.inside.at c.self.inside.text.now ++ r) c.in_default.ensures.items
-      ∙ held-kept c.self.inside.text.now c.self.inside.rest.items c.args.piece.now c.self.inside.at c.min-end.result
-      ∙ ap (λ (v : Comparison). held_of v ++ take c.min-end.result c.args.piece.now) c.self.view_is,
+  marked-more c.self.inside.text.now (take c.self.inside.at c.self.inside.text.now ++ c.self.inside.rest.items) (take c.min-end.result c.args.piece.now) _
+      (ap (λ r. take c.self.inside.at c.self.inside.text.now ++ r) c.in_default.ensures.items
+      ∙ held-kept c.self.inside.text.now c.self.inside.rest.items c.args.piece.now c.self.inside.at c.min-end.result)
+      ∙ ap (λ (v : Comparison). marked v ++ take c.min-end.result c.args.piece.now) c.self.view_is,
 )
 
 pub invariant_of-self-else-n-piece : goal.invariant_of-self-else-n-piece

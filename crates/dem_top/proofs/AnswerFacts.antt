@@ -75,22 +75,27 @@ module _ (job : Job) (source out note : Change) (taken : Takes job.limit source)
     not_four : (o : Outcome) → outcome_status o ≡ 4 → ⊥
     not_four outcomes.Reached e = cc
     not_four outcomes.Passed e = cc
+    not_four outcomes.Differs e = cc
 
     not_five : (o : Outcome) → outcome_status o ≡ 5 → ⊥
     not_five outcomes.Reached e = cc
     not_five outcomes.Passed e = cc
+    not_five outcomes.Differs e = cc
 
     not_unwritten : (o : Outcome) → IsUnwritten (outcome_status o) → ⊥
     not_unwritten outcomes.Reached e = cc
     not_unwritten outcomes.Passed e = cc
+    not_unwritten outcomes.Differs e = cc
 
     not_cut : (o : Outcome) → IsCutShort (outcome_status o) → ⊥
     not_cut outcomes.Reached e = cc
     not_cut outcomes.Passed e = cc
+    not_cut outcomes.Differs e = cc
 
     few : (o : Outcome) → outcome_status o ≤ 7
     few outcomes.Reached = omega arith
     few outcomes.Passed = omega arith
+    few outcomes.Differs = omega arith
 
   -- the words or the input are refused, and the line was put
   pub answer-refused : (refusal : Refusal) → ForLeft source (λ bytes. Fulfils (job.verdict bytes) out note (refusal_status refusal)) → IsKept out → IsCalm source → IsCalm out → IsCalm note
@@ -112,26 +117,36 @@ module _ (job : Job) (source out note : Change) (taken : Takes job.limit source)
     not_done refusals.Usage e = cc
     not_done (refusals.Scene fault) e = cc
     not_done (refusals.Bin cells) e = cc
+    not_done refusals.TooLong e = cc
+    not_done refusals.NoFrames e = cc
 
     not_four : (r : Refusal) → refusal_status r ≡ 4 → ⊥
     not_four refusals.Usage e = cc
     not_four (refusals.Scene fault) e = cc
     not_four (refusals.Bin cells) e = cc
+    not_four refusals.TooLong e = cc
+    not_four refusals.NoFrames e = cc
 
     not_five : (r : Refusal) → refusal_status r ≡ 5 → ⊥
     not_five refusals.Usage e = cc
     not_five (refusals.Scene fault) e = cc
     not_five (refusals.Bin cells) e = cc
+    not_five refusals.TooLong e = cc
+    not_five refusals.NoFrames e = cc
 
     not_cut : (r : Refusal) → IsCutShort (refusal_status r) → ⊥
     not_cut refusals.Usage e = cc
     not_cut (refusals.Scene fault) e = cc
     not_cut (refusals.Bin cells) e = cc
+    not_cut refusals.TooLong e = cc
+    not_cut refusals.NoFrames e = cc
 
     few : (r : Refusal) → refusal_status r ≤ 7
     few refusals.Usage = omega arith
     few (refusals.Scene fault) = omega arith
     few (refusals.Bin cells) = omega arith
+    few refusals.TooLong = omega arith
+    few refusals.NoFrames = omega arith
 
   -- a read failed, and its line was put
   pub answer-unread : Fails source → IsKept out → Gains note read_failed_text → IsCalm out → IsCalm note → Answers job source out note 4

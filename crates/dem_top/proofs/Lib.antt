@@ -6,3 +6,4 @@ pub mod StreamFacts
 pub mod TurnFacts
 pub mod StandFacts
 pub mod SchedFacts
+pub mod ComparedFacts

@@ -100,15 +100,20 @@ module _ (s : SceneValue) (drift bin : ℕ) where
   -- the world wasn't made
   pub never-began : (turns : List Turn) (a b note : Stream) (stop : WorldStop)
       → BeginsWorld s (record { drift = drift; bin = bin }) a.bytes b.bytes a.faults b.faults (Err stop) → RunsTurns s drift turns (between a b) (between note note) (Err stop)
-  never-began turns a b note WriteFault begins =
-      (on-the-way [] turns [] (between a b) (between note note) tt
-      (part (first_world s) a.bytes b.bytes (Kept-first s drift) (subst (AppendsPrefix a.bytes b.bytes) (sym (so_far-first s)) begins.0))
-      (AppendsPrefix-nil note.bytes (rows_text (taken s drift []))), inl begins.1)
-  never-began turns a b note OutOfMemory begins =
-      (on-the-way [] turns [] (between a b) (between note note) tt
-      (part (first_world s) a.bytes b.bytes (Kept-first s drift)
-      (AppendsPrefix-kept a.bytes a.bytes b.bytes (text_so_far s (first_world s).course) (AppendsPrefix-nil a.bytes (text_so_far s (first_world s).course)) begins.0))
-      (AppendsPrefix-nil note.bytes (rows_text (taken s drift []))), begins.1, refl)
+  never-began turns a b note WriteFault begins = (
+    on-the-way [] turns [] (between a b) (between note note) tt
+        (part (first_world s) a.bytes b.bytes (Kept-first s drift) (subst (AppendsPrefix a.bytes b.bytes) (sym (so_far-first s)) begins.0))
+        (AppendsPrefix-nil note.bytes (rows_text (taken s drift []))),
+    inl begins.1,
+  )
+  never-began turns a b note OutOfMemory begins = (
+    on-the-way [] turns [] (between a b) (between note note) tt
+        (part (first_world s) a.bytes b.bytes (Kept-first s drift)
+        (AppendsPrefix-kept a.bytes a.bytes b.bytes (text_so_far s (first_world s).course) (AppendsPrefix-nil a.bytes (text_so_far s (first_world s).course)) begins.0))
+        (AppendsPrefix-nil note.bytes (rows_text (taken s drift []))),
+    begins.1,
+    refl,
+  )
 
   -- ---- a turn
 
@@ -188,10 +193,11 @@ module _ (s : SceneValue) (drift bin : ℕ) where
         → GainsBy {A = Did} (rows_text (turn_rows old.scene old.drift old.world t)) mid.bytes to.bytes (Err stop)
         → HasFaults {A = Did} second.faults third.faults mid.faults to.faults (Err stop)
         → RunsTurns s drift ((turns ++ t ∷ []) ++ us) (between first third) (between from to) (Err stop)
-    stands-cut WriteFault us written noted faults =
-        (begun-by (Err WriteFault) us written noted,
-        ⊎_elim (λ (f : Rose second.faults third.faults × (to.faults ≡ mid.faults)). inl (subst (λ n. Rose n third.faults) stands.calm_out f.0))
-            (λ (f : Rose mid.faults to.faults × (third.faults ≡ second.faults)). inr (subst (λ n. Rose n to.faults) stands.calm_note f.0)) faults)
+    stands-cut WriteFault us written noted faults = (
+      begun-by (Err WriteFault) us written noted,
+      ⊎_elim (λ (f : Rose second.faults third.faults × (to.faults ≡ mid.faults)). inl (subst (λ n. Rose n third.faults) stands.calm_out f.0))
+          (λ (f : Rose mid.faults to.faults × (third.faults ≡ second.faults)). inr (subst (λ n. Rose n to.faults) stands.calm_note f.0)) faults,
+    )
     stands-cut OutOfMemory us written noted faults = (begun-by (Err OutOfMemory) us written noted, faults.0 ∙ stands.calm_out, faults.1 ∙ stands.calm_note)
 
 -- ---- to the end
@@ -251,10 +257,11 @@ module _ (s : SceneValue) (drift bin : ℕ) (turns : List Turn) (first second th
   -- it was cut short
   pub ends-cut : (stop : WorldStop) (counts counts_now : ℕ) → GoesOn old new second.bytes third.bytes mid.bytes to.bytes counts counts_now (Err stop) → HasFaults {A = Last} second.faults third.faults mid.faults to.faults (Err stop)
       → RunsTurns s drift turns (between first third) (between from to) (Err stop)
-  ends-cut WriteFault counts counts_now goes faults =
-      (begun-end (Err WriteFault) goes.turns goes.by_itself goes.written goes.noted,
-      ⊎_elim (λ (f : Rose second.faults third.faults × (to.faults ≡ mid.faults)). inl (subst (λ n. Rose n third.faults) stands.calm_out f.0))
-          (λ (f : Rose mid.faults to.faults × (third.faults ≡ second.faults)). inr (subst (λ n. Rose n to.faults) stands.calm_note f.0)) faults)
+  ends-cut WriteFault counts counts_now goes faults = (
+    begun-end (Err WriteFault) goes.turns goes.by_itself goes.written goes.noted,
+    ⊎_elim (λ (f : Rose second.faults third.faults × (to.faults ≡ mid.faults)). inl (subst (λ n. Rose n third.faults) stands.calm_out f.0))
+        (λ (f : Rose mid.faults to.faults × (third.faults ≡ second.faults)). inr (subst (λ n. Rose n to.faults) stands.calm_note f.0)) faults,
+  )
   ends-cut OutOfMemory counts counts_now goes faults =
       (begun-end (Err OutOfMemory) goes.turns goes.by_itself goes.written goes.noted, faults.0 ∙ stands.calm_out, faults.1 ∙ stands.calm_note)
 

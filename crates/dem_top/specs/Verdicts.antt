@@ -70,6 +70,14 @@ usage_text = codes "usage: dem MODE [--drift N] [--bin N] [--turns T] [--seed N]
 abbrev pub read_failed_text : List ℕ
 read_failed_text = codes "read failed\n"
 
+-- the line of an input of `check` that is too long
+abbrev pub too_long_text : List ℕ
+too_long_text = codes "input: longer than 268435456 bytes\n"
+
+-- the line of an input of `check` without a line between its scene and its rows
+abbrev pub no_frames_text : List ℕ
+no_frames_text = codes "frames: missing\n"
+
 -- the line of a side of bins that is too small
 unfoldable pub bin_text : ℕ → List ℕ
 bin_text cells = codes "bin: " ++ decimal cells ++ codes " cells, limit 8\n"

@@ -6,6 +6,8 @@
 //! other status with its cause, and with prefixes. Takes memory: all three. Not here: the words (dem_words), the runs (dem_output).
 #![tactic(auto)]
 
+mod comparison;
+mod difference;
 mod outcome;
 mod plain;
 mod reading;

@@ -12,7 +12,7 @@ use dem_bins::BinTooSmall;
 use dem_core::WorldStop;
 use dem_model::{Last, OutOfMemory};
 use dem_output::RunFault;
-use dem_outside::Sink;
+use dem_outside::{Failed, Sink};
 use dem_scene::SceneFault;
 
 /// How a job ended that was done.
@@ -22,6 +22,8 @@ pub(crate) enum Outcome {
     Reached,
     /// A limit was passed.
     Passed,
+    /// The rows aren't the output.
+    Differs,
 }
 
 /// Why a job wasn't done.
@@ -96,6 +98,14 @@ impl From<WorldStop> for NotDone {
     }
 }
 
+impl From<Failed> for NotDone {
+    ghost from_gives = { λ _ s. s ≡ stops.WriteFailed };
+
+    fn from(_: Failed) -> NotDone {
+        NotDone::WriteFailed
+    }
+}
+
 impl From<OutOfMemory> for NotDone {
     ghost from_gives = { λ _ s. s ≡ stops.OutOfMemory };
 
@@ -113,6 +123,7 @@ fn outcome_status(outcome: Outcome) -> u8
     match outcome {
         Outcome::Reached => 0,
         Outcome::Passed => 3,
+        Outcome::Differs => 7,
     }
 }
 

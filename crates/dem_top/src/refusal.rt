@@ -20,10 +20,18 @@ pub(crate) enum Refusal {
     Scene(SceneFault),
     /// The bins are so small that a sphere might meet this many cells on an axis.
     Bin(u64),
+    /// The input is longer than it may be.
+    TooLong,
+    /// The line between a scene and its rows is missing.
+    NoFrames,
 }
 
 const USAGE: &[u8] =
     b"usage: dem MODE [--drift N] [--bin N] [--turns T] [--seed N] [--count N] [--report] [--split]\n";
+
+const TOO_LONG: &[u8] = b"input: longer than 268435456 bytes\n";
+
+const NO_FRAMES: &[u8] = b"frames: missing\n";
 
 /// The longest line of a refused bin has 41 bytes: `bin: `, a number of 20, ` cells, limit 8` and a newline.
 const BIN_ROOM: usize = 48;
@@ -48,7 +56,7 @@ pub(crate) fn refusal_status(refusal: Refusal) -> u8
 {
     match refusal {
         Refusal::Usage => 1,
-        Refusal::Scene(_) | Refusal::Bin(_) => 2,
+        Refusal::Scene(_) | Refusal::Bin(_) | Refusal::TooLong | Refusal::NoFrames => 2,
     }
 }
 
@@ -61,6 +69,8 @@ pub(crate) fn refuse<N: Sink>(refusal: Refusal, note: &mut N) -> u8
         Refusal::Usage => put_line(USAGE, status, note),
         Refusal::Scene(fault) => put_line(fault_line(fault).as_slice(), status, note),
         Refusal::Bin(cells) => put_line(bin_line(cells).as_slice(), status, note),
+        Refusal::TooLong => put_line(TOO_LONG, status, note),
+        Refusal::NoFrames => put_line(NO_FRAMES, status, note),
     }
 }
 

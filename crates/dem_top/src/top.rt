@@ -5,6 +5,7 @@ ghost use Rattle.dem_top.specs.Jobs.{job_of, job_meant, Takes};
 ghost use Rattle.dem_top.specs.Parts.{Does};
 ghost use Rattle.dem_top.specs.Answers.{Answers};
 
+use crate::comparison::compare;
 use crate::outcome::{NotDone, Outcome, tell};
 use crate::plain::plain;
 use crate::refusal::{Refusal, refuse};
@@ -80,7 +81,8 @@ fn carry_out<S: Source, K: Sink, N: Sink>(
     match order.mode {
         Mode::Plain => plain(alloc, source, out),
         Mode::Sched => sched(alloc, order, source, out, note),
-        Mode::Run | Mode::Check | Mode::Gen | Mode::Resume | Mode::Look | Mode::Pack => {
+        Mode::Check => compare(alloc, source, out),
+        Mode::Run | Mode::Gen | Mode::Resume | Mode::Look | Mode::Pack => {
             Err(NotDone::Refused(Refusal::Usage))
         }
     }

@@ -59,6 +59,14 @@ kept-same o a n m old new course lists k = record {
 
 -- ---- at the start
 
+first-tests : (s : SceneValue) → (first_course s).tests ≡ 0
+unfolding first_course
+first-tests s = refl
+
+-- no pair was tested
+pub none-tested : (s : SceneValue) (drift : ℕ) (run : Running) → run ≡ record { scene = s; drift = drift; course = first_course s } → run.course.tests ≡ 0
+none-tested s drift run is = ap (λ (r : Running). r.course.tests) is ∙ first-tests s
+
 -- the first frame was written, and no list was taken into use
 pub kept-first : (o b n : Option (List ℕ)) (s : SceneValue) (drift : ℕ) (run : Running) (home : Option Parcel) → run ≡ record { scene = s; drift = drift; course = first_course s } → Appends o b (reached_text s (first_state s))
     → IsKeptUp o b n n (record { course = run; home = home; lists = 0 })

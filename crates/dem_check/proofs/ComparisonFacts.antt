@@ -86,9 +86,9 @@ module _ (c : Comparison) (is : IsComparison c) (going : c.whole ≡ false) (pie
         within = is.within;
         parted = parted-more c.rest refl;
         ended = λ _. (
-            c.rest ++ line_of piece,
-            ap (λ l. c.rest ++ l) row ∙ sym (append_assoc c.rest (line_of piece) (10 ∷ [])),
-            plain-append c.rest (line_of piece) (is.going going) (line-plain piece),
+          c.rest ++ line_of piece,
+          ap (λ l. c.rest ++ l) row ∙ sym (append_assoc c.rest (line_of piece) (10 ∷ [])),
+          plain-append c.rest (line_of piece) (is.going going) (line-plain piece),
         );
         going = λ whole. absurd (true≢false whole);
         stops = inr (inl refl);

@@ -14,3 +14,6 @@ mod verdict;
 
 pub use checking::check;
 pub use verdict::{Line, Verdict};
+
+#[cfg(test)]
+mod tests;

@@ -4,9 +4,9 @@ use Rattle.std.specs.Prelude.{if◌then◌else◌}
 use Rattle.std.specs.List.{AllByRecursion}
 use Rattle.std.proofs.lemmas.Bool.{lt-ltb, ne_eqb, eq-eqb}
 use Rattle.dem_model.specs.SceneValue.{SceneValue}
-use Rattle.dem_model.specs.Plain.{plain_at, last_of}
+use Rattle.dem_model.specs.Plain.{plain_at, last_of, first_state}
 use Rattle.dem_model.specs.Step.{step_of}
-use Rattle.dem_model.specs.World.{Snap, Parcel, Home, Posted, Taken, Delivered, Course, World, is_home, is_posted, is_taken, is_delivered, is_past, may_post, enabled, snap_of, carried_by, list_of, with_list, collected, done_at, stepped, with_parcel, made, turned, first_course, first_world, text_after, rows_after, world_after, row_of, row_with, made_rows, turn_rows, turn_text, goes, along}
+use Rattle.dem_model.specs.World.{Snap, Parcel, Home, Posted, Taken, Delivered, Course, World, is_home, is_posted, is_taken, is_delivered, is_past, may_post, enabled, snap_of, carried_by, list_of, with_list, collected, done_at, stepped, with_parcel, made, turned, first_course, first_world, text_after, rows_after, world_after, row_of, row_with, made_rows, turn_rows, turn_text, goes, along, reached_text}
 use Rattle.dem_model.specs.TakenRows.{begun, used_until, IsFollowed, AreRows, IsLegal, steps, spell_from, spell}
 use Rattle.dem_model.specs.declared.state.End.{End}
 use Rattle.dem_model.specs.declared.state.Last.{Last}
@@ -19,7 +19,7 @@ use Rattle.dem_output.proofs.RunLaw.{by_step, last_from, step_of-step}
 use Rattle.dem_step.proofs.StepFacts.{plain-after}
 use Rattle.dem_core.specs.Courses.{IsOnCourse, HasEnd}
 use Rattle.dem_core.specs.SoFar.{begun_by, text_so_far, HasTaken}
-use Rattle.dem_core.specs.Playing.{Plays}
+use Rattle.dem_core.specs.Playing.{Plays, ComesBy}
 use Rattle.dem_core.proofs.OutputFacts.{last-here}
 use Rattle.dem_core.proofs.CourseFacts.{goes_on-may, none-open, end-number, first-number}
 use Rattle.dem_core.proofs.SoFarFacts.{text-ended}
@@ -334,9 +334,9 @@ serves-later drift (Some from) now m until h le = h
 size-there : (s : SceneValue) (drift : ℕ) (row : TakenRow) (st : State) → plain_at s row.from ≡ Some st → IsSomeAnd (plain_at s row.from) (λ x. row.pairs ≡ length (list_of s drift (snap_of x))) → row.pairs ≡ length (list_of s drift (snap_of st))
 size-there s drift row st here h = subst (λ o. IsSomeAnd o (λ x. row.pairs ≡ length (list_of s drift (snap_of x)))) here h
 
-snap-step : (st : State) → (snap_of st).step ≡ st.step
+snap-step : (st : State) (n : ℕ) → st.step ≡ n → (snap_of st).step ≡ n
 unfolding snap_of
-snap-step st = refl
+snap-step st n is = is
 
 rows-end : (s : SceneValue) (drift : ℕ) (rows : List TakenRow) (w : World) (n : ℕ) (from : Option ℕ) → Stands s drift w n from Home → AreRows s drift rows (begun (last_of s)) → AllByRecursion (λ (r : TakenRow). r.at < begun (last_of s)) rows
     → MayCome (begun (last_of s)) from n rows → Serves drift from n (used_until rows (begun (last_of s))) → Ends s drift w (spell_from n rows (begun (last_of s))) rows
@@ -358,7 +358,7 @@ rows-end s drift (row ∷ rows) w n from h each in_time comes serves =
     let b = steps-arrive s drift (row.at - row.from) v row.from from (Delivered (snap_of a.world.course.state)) stands (subst (Serves drift from row.from) (sym at2) (serves-later drift from n row.from row.at serves comes.1)) (omega (arith, each.0.past, in_time.0)) in
     let ready : Stands s drift b.world row.at from (Delivered (snap_of a.world.course.state)) = subst (λ m. Stands s drift b.world m from (Delivered (snap_of a.world.course.state))) at2 b.stands in
     let c = is-collected s drift b.world row.at from (snap_of a.world.course.state) ready in
-    let from_is : (snap_of a.world.course.state).step ≡ row.from = snap-step a.world.course.state ∙ there.at in
+    let from_is : (snap_of a.world.course.state).step ≡ row.from = snap-step a.world.course.state row.from there.at in
     let stands' : Stands s drift (made s drift b.world Collect) row.at (Some row.from) Home = subst (λ m. Stands s drift (made s drift b.world Collect) row.at (Some m) Home) from_is c.stands in
     let rest = rows-end s drift rows (made s drift b.world Collect) row.at (Some row.from) stands' each.1 in_time.1 (comes-next (begun (last_of s)) row rows each.0.followed in_time.0) each.0.used in
     let noted : made_rows s drift b.world Collect ≡ row ∷ [] =
@@ -449,3 +449,23 @@ legal-ends s drift (row ∷ rows) legal =
 -- along the spell of legal rows a world may take every turn, and ends with the whole output, these rows, and their tests
 pub legal-plays : (s : SceneValue) (drift : ℕ) (rows : List TakenRow) → IsLegal s drift (last_of s) rows → Plays s drift rows (last_of s)
 legal-plays s drift rows legal = plays-from s drift rows (legal-ends s drift rows legal)
+
+-- whatever turns a world is given from its start, the text and the rows are what it has come to
+pub all-come : (s : SceneValue) (drift : ℕ) (turns : List Turn) → ComesBy s drift turns
+all-come s drift turns =
+    let first = Kept-first s drift in
+    let kept = Kept-after s drift (first_world s) turns first in
+    let w : World = world_after s drift (first_world s) turns in
+    let text : reached_text s (first_state s) ++ text_after s drift (first_world s) turns ≡ text_so_far s (world_after s drift (first_world s) turns).course =
+    ap (λ l. l ++ text_after s drift (first_world s) turns) (sym (so_far-first s)) ∙ sym (so_far-after s drift (first_world s) turns first) in
+    let taken = HasTaken-after s drift [] (first_world s) turns first (taken-first s drift) in
+    record {
+      course = kept.course;
+      parcel = kept.parcel;
+      written = text;
+      taken = taken;
+      whole = λ last is.
+          let out = text-ended s drift (world_after s drift (first_world s) turns).course last kept.course is in
+          let rows = HasTaken-ended s drift (rows_after s drift (first_world s) turns) (world_after s drift (first_world s) turns).course last kept.course is taken in
+          record { written = text ∙ out.0; last_is = out.1; legal = rows.0; tests = rows.1 };
+    }

@@ -16,5 +16,5 @@ mod world;
 
 pub use course::Course;
 pub use did::{Did, WorldStop};
-pub use law::plays;
+pub use law::{comes_by, plays};
 pub use world::World;

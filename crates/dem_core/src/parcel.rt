@@ -31,12 +31,7 @@ impl Place {
     pub(crate) fn is_home(self) -> bool
         ensures { (snap : Snapshot) → result ≡ is_home_of (parcel_of self snap) }
     {
-        match self {
-            Place::Home => true,
-            Place::Posted => false,
-            Place::Taken => false,
-            Place::Delivered => false,
-        }
+        matches!(self, Place::Home)
     }
 
     /// Whether the parcel was posted, and not taken yet.
@@ -44,12 +39,7 @@ impl Place {
     pub(crate) fn is_posted(self) -> bool
         ensures { (snap : Snapshot) → result ≡ is_posted_of (parcel_of self snap) }
     {
-        match self {
-            Place::Home => false,
-            Place::Posted => true,
-            Place::Taken => false,
-            Place::Delivered => false,
-        }
+        matches!(self, Place::Posted)
     }
 
     /// Whether kinematics has the parcel.
@@ -57,12 +47,7 @@ impl Place {
     pub(crate) fn is_taken(self) -> bool
         ensures { (snap : Snapshot) → result ≡ is_taken_of (parcel_of self snap) }
     {
-        match self {
-            Place::Home => false,
-            Place::Posted => false,
-            Place::Taken => true,
-            Place::Delivered => false,
-        }
+        matches!(self, Place::Taken)
     }
 
     /// Whether the parcel was delivered, and not collected yet.
@@ -70,12 +55,7 @@ impl Place {
     pub(crate) fn is_delivered(self) -> bool
         ensures { (snap : Snapshot) → result ≡ is_delivered_of (parcel_of self snap) }
     {
-        match self {
-            Place::Home => false,
-            Place::Posted => false,
-            Place::Taken => false,
-            Place::Delivered => true,
-        }
+        matches!(self, Place::Delivered)
     }
 }
 

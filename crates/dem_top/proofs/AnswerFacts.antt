@@ -12,7 +12,7 @@ use Rattle.dem_top.specs.declared.outcome.NotDone.{NotDone}
 use Rattle.dem_top.specs.declared.outcome.NotDone.TheVariants as stops
 use Rattle.dem_top.specs.declared.refusal.Refusal.{Refusal}
 use Rattle.dem_top.specs.declared.refusal.Refusal.TheVariants as refusals
-use Rattle.dem_top.specs.Verdicts.{Refused, out_text, MayGain, verdict_status, read_failed_text, usage_text}
+use Rattle.dem_top.specs.Verdicts.{Refused, out_text, MayGain, MayStart, verdict_status, read_failed_text, usage_text}
 use Rattle.dem_top.specs.Jobs.{Job, usage_job, Takes, ReadsWhole, ForTold, ForAllTold, ForLeft, ForAnyLeft}
 use Rattle.dem_top.specs.Answers.{Fulfils, Begins, FailsToRead, IsDone, IsVerdict, IsCutShort, IsUnwritten, Answers}
 use Rattle.dem_top.specs.Refusals.{outcome_status, refusal_status, refusal_text}
@@ -50,14 +50,14 @@ kept-then-prefix a b c text kept gains = AppendsPrefix-after a b c [] text (kept
 
 module _ (job : Job) (source out note : Change) (taken : Takes job.limit source) where
   -- what some bytes come to that were left is what all of them come to
-  comes-to : (status answer : ℕ) → ForLeft source (Fulfils job out note status) → ForAnyLeft source (λ bytes. verdict_status (job.verdict bytes) ≡ answer) → status ≡ answer
+  comes-to : (status answer : ℕ) → ForLeft source (λ bytes. Fulfils (job.verdict bytes) out note status) → ForAnyLeft source (λ bytes. verdict_status (job.verdict bytes) ≡ answer) → status ≡ answer
   comes-to status answer fulfils comes = by source.before.bytes fulfils comes where
-    by : (left : Option (List ℕ)) → ForTold left (Fulfils job out note status) → ForAllTold left (λ bytes. verdict_status (job.verdict bytes) ≡ answer) → status ≡ answer
+    by : (left : Option (List ℕ)) → ForTold left (λ bytes. Fulfils (job.verdict bytes) out note status) → ForAllTold left (λ bytes. verdict_status (job.verdict bytes) ≡ answer) → status ≡ answer
     by None f c = f.1.status_is ∙ c f.0
     by (Some bytes) f c = f.status_is ∙ c
 
   -- the job was done
-  pub answer-done : (outcome : Outcome) → ForLeft source (Fulfils job out note (outcome_status outcome)) → ReadsWhole job.limit source → IsCalm source → IsCalm out → IsCalm note
+  pub answer-done : (outcome : Outcome) → ForLeft source (λ bytes. Fulfils (job.verdict bytes) out note (outcome_status outcome)) → ReadsWhole job.limit source → IsCalm source → IsCalm out → IsCalm note
       → Answers job source out note (outcome_status outcome)
   answer-done outcome fulfils whole calm_source calm_out calm_note = record {
     fulfilled = λ _. fulfils;
@@ -75,25 +75,30 @@ module _ (job : Job) (source out note : Change) (taken : Takes job.limit source)
     not_four : (o : Outcome) → outcome_status o ≡ 4 → ⊥
     not_four outcomes.Reached e = cc
     not_four outcomes.Passed e = cc
+    not_four outcomes.Differs e = cc
 
     not_five : (o : Outcome) → outcome_status o ≡ 5 → ⊥
     not_five outcomes.Reached e = cc
     not_five outcomes.Passed e = cc
+    not_five outcomes.Differs e = cc
 
     not_unwritten : (o : Outcome) → IsUnwritten (outcome_status o) → ⊥
     not_unwritten outcomes.Reached e = cc
     not_unwritten outcomes.Passed e = cc
+    not_unwritten outcomes.Differs e = cc
 
     not_cut : (o : Outcome) → IsCutShort (outcome_status o) → ⊥
     not_cut outcomes.Reached e = cc
     not_cut outcomes.Passed e = cc
+    not_cut outcomes.Differs e = cc
 
     few : (o : Outcome) → outcome_status o ≤ 7
     few outcomes.Reached = omega arith
     few outcomes.Passed = omega arith
+    few outcomes.Differs = omega arith
 
   -- the words or the input are refused, and the line was put
-  pub answer-refused : (refusal : Refusal) → ForLeft source (Fulfils job out note (refusal_status refusal)) → IsKept out → IsCalm source → IsCalm out → IsCalm note
+  pub answer-refused : (refusal : Refusal) → ForLeft source (λ bytes. Fulfils (job.verdict bytes) out note (refusal_status refusal)) → IsKept out → IsCalm source → IsCalm out → IsCalm note
       → Answers job source out note (refusal_status refusal)
   answer-refused refusal fulfils kept calm_source calm_out calm_note = record {
     fulfilled = λ _. fulfils;
@@ -111,22 +116,37 @@ module _ (job : Job) (source out note : Change) (taken : Takes job.limit source)
     not_done : (r : Refusal) → IsDone (refusal_status r) → ⊥
     not_done refusals.Usage e = cc
     not_done (refusals.Scene fault) e = cc
+    not_done (refusals.Bin cells) e = cc
+    not_done refusals.TooLong e = cc
+    not_done refusals.NoFrames e = cc
 
     not_four : (r : Refusal) → refusal_status r ≡ 4 → ⊥
     not_four refusals.Usage e = cc
     not_four (refusals.Scene fault) e = cc
+    not_four (refusals.Bin cells) e = cc
+    not_four refusals.TooLong e = cc
+    not_four refusals.NoFrames e = cc
 
     not_five : (r : Refusal) → refusal_status r ≡ 5 → ⊥
     not_five refusals.Usage e = cc
     not_five (refusals.Scene fault) e = cc
+    not_five (refusals.Bin cells) e = cc
+    not_five refusals.TooLong e = cc
+    not_five refusals.NoFrames e = cc
 
     not_cut : (r : Refusal) → IsCutShort (refusal_status r) → ⊥
     not_cut refusals.Usage e = cc
     not_cut (refusals.Scene fault) e = cc
+    not_cut (refusals.Bin cells) e = cc
+    not_cut refusals.TooLong e = cc
+    not_cut refusals.NoFrames e = cc
 
     few : (r : Refusal) → refusal_status r ≤ 7
     few refusals.Usage = omega arith
     few (refusals.Scene fault) = omega arith
+    few (refusals.Bin cells) = omega arith
+    few refusals.TooLong = omega arith
+    few refusals.NoFrames = omega arith
 
   -- a read failed, and its line was put
   pub answer-unread : Fails source → IsKept out → Gains note read_failed_text → IsCalm out → IsCalm note → Answers job source out note 4
@@ -156,7 +176,7 @@ module _ (job : Job) (source out note : Change) (taken : Takes job.limit source)
     not_cut e = cc
 
   -- a put failed
-  pub answer-unput : (Fails out ⊎ Fails note) → (IsCalm source ⊎ IsKept out) → ForLeft source (Begins job out note) ⊎ FailsToRead source out note → Answers job source out note 5
+  pub answer-unput : (Fails out ⊎ Fails note) → (IsCalm source ⊎ IsKept out) → ForLeft source (λ bytes. Begins (job.verdict bytes) out note) ⊎ FailsToRead source out note → Answers job source out note 5
   answer-unput failed reading begins = record {
     fulfilled = λ is. absurd (not_verdict is);
     read_whole = λ is. absurd (not_done is);
@@ -183,7 +203,7 @@ module _ (job : Job) (source out note : Change) (taken : Takes job.limit source)
     not_unwritten e = cc
 
   -- there was no memory
-  pub answer-no_memory : ForLeft source (Begins job out note) → IsCalm source → IsCalm out → IsCalm note → Answers job source out note 6
+  pub answer-no_memory : ForLeft source (λ bytes. Begins (job.verdict bytes) out note) → IsCalm source → IsCalm out → IsCalm note → Answers job source out note 6
   answer-no_memory begins calm_source calm_out calm_note = record {
     fulfilled = λ is. absurd (not_verdict is);
     read_whole = λ is. absurd (not_done is);
@@ -225,7 +245,7 @@ module _ (job : Job) (source out : Change) (first second third : Stream) where
   whole = both first second third
 
   -- what was noted stays so
-  fulfils-kept : (status : ℕ) (bytes : List ℕ) → Keeps second.bytes third.bytes → Fulfils job out noted status bytes → Fulfils job out whole status bytes
+  fulfils-kept : (status : ℕ) (bytes : List ℕ) → Keeps second.bytes third.bytes → Fulfils (job.verdict bytes) out noted status → Fulfils (job.verdict bytes) out whole status
   fulfils-kept status bytes kept f = record {
     status_is = f.status_is;
     written = f.written;
@@ -234,7 +254,7 @@ module _ (job : Job) (source out : Change) (first second third : Stream) where
     noted = Appends-kept first.bytes second.bytes third.bytes f.rows f.noted kept;
   }
 
-  begins-kept : (bytes : List ℕ) → Keeps second.bytes third.bytes → Begins job out noted bytes → Begins job out whole bytes
+  begins-kept : (bytes : List ℕ) → Keeps second.bytes third.bytes → Begins (job.verdict bytes) out noted → Begins (job.verdict bytes) out whole
   begins-kept bytes kept b = record {
     written = b.written;
     rows = b.rows;
@@ -244,7 +264,7 @@ module _ (job : Job) (source out : Change) (first second third : Stream) where
 
   -- an input is refused, and its line was put where nothing was noted
   refused-fulfils : (refusal : Refusal) (bytes : List ℕ) → IsKept out → Keeps first.bytes second.bytes → Appends second.bytes third.bytes (refusal_text refusal)
-      → job.verdict bytes ≡ Refused (refusal_status refusal) (refusal_text refusal) → Fulfils job out whole (refusal_status refusal) bytes
+      → job.verdict bytes ≡ Refused (refusal_status refusal) (refusal_text refusal) → Fulfils (job.verdict bytes) out whole (refusal_status refusal)
   refused-fulfils refusal bytes kept quiet line is = record {
     status_is = ap verdict_status (sym is);
     written = subst (λ v. Gains out (out_text v)) (sym is) (kept-gains out.before.bytes out.after.bytes kept);
@@ -255,11 +275,11 @@ module _ (job : Job) (source out : Change) (first second third : Stream) where
 
   -- an input is refused, and the put of its line failed
   refused-begins : (refusal : Refusal) (bytes : List ℕ) → IsKept out → Keeps first.bytes second.bytes → GainsPrefix told (refusal_text refusal)
-      → job.verdict bytes ≡ Refused (refusal_status refusal) (refusal_text refusal) → Begins job out whole bytes
+      → job.verdict bytes ≡ Refused (refusal_status refusal) (refusal_text refusal) → Begins (job.verdict bytes) out whole
   refused-begins refusal bytes kept quiet line is = record {
     written = subst (λ v. GainsPrefix out (out_text v)) (sym is) (AppendsPrefix-whole out.before.bytes out.after.bytes [] (kept-gains out.before.bytes out.after.bytes kept));
     rows = refusal_text refusal;
-    may_be = subst (λ v. MayGain v (refusal_text refusal)) (sym is) refl;
+    may_be = subst (λ v. MayStart v (refusal_text refusal)) (sym is) refl;
     noted = kept-then-prefix first.bytes second.bytes third.bytes (refusal_text refusal) quiet line;
   }
 
@@ -268,20 +288,20 @@ module _ (job : Job) (source out : Change) (first second third : Stream) where
   answered (Ok outcome) status does tells taken =
       subst (Answers job source out whole) (sym tells.0)
       (answer-done job source out whole taken outcome
-      (ForTold-weaker source.before.bytes (Fulfils job out noted (outcome_status outcome)) (Fulfils job out whole (outcome_status outcome))
+      (ForTold-weaker source.before.bytes (λ bytes. Fulfils (job.verdict bytes) out noted (outcome_status outcome)) (λ bytes. Fulfils (job.verdict bytes) out whole (outcome_status outcome))
       (λ bytes f. fulfils-kept (outcome_status outcome) bytes tells.1 f) does.0) does.1 does.2 does.3 (tells.2 ∙ does.4))
   answered (Err (stops.Refused refusal)) status does tells taken =
       ⊎_elim
       (λ (put : (status ≡ refusal_status refusal) × Gains told (refusal_text refusal) × IsCalm told).
       subst (Answers job source out whole) (sym put.0)
       (answer-refused job source out whole taken refusal
-      (ForTold-weaker source.before.bytes (λ bytes. job.verdict bytes ≡ Refused (refusal_status refusal) (refusal_text refusal)) (Fulfils job out whole (refusal_status refusal))
+      (ForTold-weaker source.before.bytes (λ bytes. job.verdict bytes ≡ Refused (refusal_status refusal) (refusal_text refusal)) (λ bytes. Fulfils (job.verdict bytes) out whole (refusal_status refusal))
       (λ bytes is. refused-fulfils refusal bytes does.1 does.2 put.1 is) does.0) does.1 does.3 does.4 (put.2 ∙ does.5)))
       (λ (failed : (status ≡ 5) × GainsPrefix told (refusal_text refusal) × Fails told).
       subst (Answers job source out whole) (sym failed.0)
       (answer-unput job source out whole taken (inr (subst (λ n. Rose n third.faults) does.5 failed.2)) (inl does.3)
       (inl
-      (ForTold-weaker source.before.bytes (λ bytes. job.verdict bytes ≡ Refused (refusal_status refusal) (refusal_text refusal)) (Begins job out whole)
+      (ForTold-weaker source.before.bytes (λ bytes. job.verdict bytes ≡ Refused (refusal_status refusal) (refusal_text refusal)) (λ bytes. Begins (job.verdict bytes) out whole)
       (λ bytes is. refused-begins refusal bytes does.1 does.2 failed.1 is) does.0)))) tells
   answered (Err stops.ReadFailed) status does tells taken =
       ⊎_elim
@@ -296,11 +316,11 @@ module _ (job : Job) (source out : Change) (first second third : Stream) where
       subst (Answers job source out whole) (sym tells.0)
       (answer-unput job source out whole taken
       (⊎_elim (λ (f : Fails out). inl f) (λ (f : Fails noted). inr (subst (λ n. Rose first.faults n) (sym tells.2) f)) does.2) (inl does.1)
-      (inl (ForTold-weaker source.before.bytes (Begins job out noted) (Begins job out whole) (λ bytes b. begins-kept bytes tells.1 b) does.0)))
+      (inl (ForTold-weaker source.before.bytes (λ bytes. Begins (job.verdict bytes) out noted) (λ bytes. Begins (job.verdict bytes) out whole) (λ bytes b. begins-kept bytes tells.1 b) does.0)))
   answered (Err stops.OutOfMemory) status does tells taken =
       subst (Answers job source out whole) (sym tells.0)
       (answer-no_memory job source out whole taken
-      (ForTold-weaker source.before.bytes (Begins job out noted) (Begins job out whole) (λ bytes b. begins-kept bytes tells.1 b) does.0) does.1 does.2 (tells.2 ∙ does.3))
+      (ForTold-weaker source.before.bytes (λ bytes. Begins (job.verdict bytes) out noted) (λ bytes. Begins (job.verdict bytes) out whole) (λ bytes b. begins-kept bytes tells.1 b) does.0) does.1 does.2 (tells.2 ∙ does.3))
 
 -- ---- words that are no good, and no memory for them
 
@@ -321,4 +341,4 @@ usage-told source out before after status tells =
 pub no-words : (job : Job) (source out note : Stream) → Answers job (idle source) (idle out) (idle note) 6
 no-words job source out note =
     answer-no_memory job (idle source) (idle out) (idle note) (still-takes job.limit source)
-    (ForTold-all source.bytes (Begins job (idle out) (idle note)) (begins-nothing job out note)) refl refl refl
+    (ForTold-all source.bytes (λ bytes. Begins (job.verdict bytes) (idle out) (idle note)) (λ bytes. begins-nothing (job.verdict bytes) out note)) refl refl refl

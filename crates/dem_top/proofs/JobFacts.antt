@@ -1,106 +1,125 @@
 -- What the parts of a job promise, put together.
-use Rattle.std.proofs.Common.{◌≡◌, ℕ, List, [], Ok, Err, inl, refl, sym, ap, ◌∙◌, subst}
+use Rattle.std.proofs.Common.{◌≡◌, ℕ, List, [], Option, Some, Result, Ok, Err, inl, inr, refl, sym, ap, ◌∙◌, subst}
 use Rattle.std.proofs.KnownBytes.{Keeps-refl, Appends-nil}
 use Rattle.dem_outside.specs.Change.{Stream, Change, Gains, GainsPrefix}
 use Rattle.dem_outside.proofs.Prefixes.{AppendsPrefix-nil}
 use Rattle.dem_model.specs.SceneValue.{SceneValue}
 use Rattle.dem_model.specs.ReadingScene.{scene_from}
 use Rattle.dem_model.specs.ReadingFaults.{fault_text}
+use Rattle.dem_model.specs.Plain.{last_of}
 use Rattle.dem_model.specs.Output.{output_of}
+use Rattle.dem_model.specs.declared.limits.TheConstants.{MAX_TEXT}
+use Rattle.dem_model.specs.declared.fault.SceneFault.{SceneFault}
 use Rattle.dem_model.specs.declared.state.Last.{Last}
 use Rattle.dem_model.specs.declared.state.Last.TheVariants as lasts
 use Rattle.dem_output.specs.declared.running.RunFault.{RunFault}
 use Rattle.dem_output.specs.declared.running.RunFault.TheVariants as runs
 use Rattle.dem_output.specs.Running.{WritesRun}
+use Rattle.dem_top.specs.declared.outcome.Outcome.{Outcome}
 use Rattle.dem_top.specs.declared.outcome.NotDone.{NotDone}
 use Rattle.dem_top.specs.declared.outcome.NotDone.TheVariants as stops
 use Rattle.dem_top.specs.declared.refusal.Refusal.TheVariants as refusals
-use Rattle.dem_top.specs.Verdicts.{Verdict, Refused, Written, Exactly, MayGain, no_rows, out_text, run_status, run_verdict, on_scene, plain_verdict, verdict_status}
-use Rattle.dem_top.specs.Jobs.{Job, ForLeft, plain_job}
+use Rattle.dem_top.specs.TurnNotes.{NotesSoFar}
+use Rattle.dem_top.specs.Verdicts.{Verdict, Refused, Written, Notes, Exactly, OfTurns, MayNote, MayBegin, MayGain, MayStart, no_rows, out_text, run_status, run_verdict, on_scene, plain_verdict, verdict_status}
+use Rattle.dem_top.specs.Jobs.{Job, ForTold, ForLeft}
 use Rattle.dem_top.specs.Answers.{Fulfils, Begins}
-use Rattle.dem_top.specs.Refusals.{outcome_status}
-use Rattle.dem_top.specs.Parts.{run_stop, run_outcome, ReadsScene, DoesQuietly, idle}
+use Rattle.dem_top.specs.Refusals.{outcome_status, refusal_status, refusal_text}
+use Rattle.dem_top.specs.Parts.{run_stop, run_outcome, ReadsScene, Comes, Does, DoesQuietly, idle}
 use Rattle.dem_top.proofs.LeftFacts.{ForTold-weaker, ForTold-all}
 
 -- ---- nothing written, nothing noted
 
--- something may be noted by any verdict
-pub some-rows : (v : Verdict) → (rows : List ℕ) × MayGain v rows
+-- what may be noted in the end may be on the way to it
+note-begins : (notes : Notes) (rows : List ℕ) → MayNote notes rows → MayBegin notes rows
+note-begins (Exactly rows') rows may = may
+note-begins (OfTurns s drift turns) rows may = inr may
+
+pub gain-starts : (v : Verdict) (rows : List ℕ) → MayGain v rows → MayStart v rows
+gain-starts (Refused status line) rows may = may
+gain-starts (Written status text notes) rows may = note-begins notes rows may
+
+-- something may be noted on the way, by any verdict
+some-notes : (notes : Notes) → (rows : List ℕ) × MayBegin notes rows
+some-notes (Exactly rows) = (rows, refl)
+some-notes (OfTurns s drift turns) = (_, inl (record { more = []; by_itself = tt; text = refl }))
+
+some-rows : (v : Verdict) → (rows : List ℕ) × MayStart v rows
 some-rows (Refused status line) = (line, refl)
-some-rows (Written status text (Exactly rows)) = (rows, refl)
+some-rows (Written status text notes) = some-notes notes
 
 -- nothing is a prefix of anything
-pub begins-nothing : (job : Job) (out note : Stream) (bytes : List ℕ) → Begins job (idle out) (idle note) bytes
-begins-nothing job out note bytes =
-    let some = some-rows (job.verdict bytes) in
-    record {
-      written = AppendsPrefix-nil out.bytes (out_text (job.verdict bytes));
-      rows = some.0;
-      may_be = some.1;
-      noted = AppendsPrefix-nil note.bytes some.0;
-    }
+pub begins-nothing : (v : Verdict) (out note : Stream) → Begins v (idle out) (idle note)
+begins-nothing v out note =
+    let some = some-rows v in
+    record { written = AppendsPrefix-nil out.bytes (out_text v); rows = some.0; may_be = some.1; noted = AppendsPrefix-nil note.bytes some.0 }
+
+-- ---- a job that reads a scene
+
+module _ (f : SceneValue → Verdict) (verdict : List ℕ → Verdict) (each : (bytes : List ℕ) → verdict bytes ≡ on_scene f (scene_from bytes)) where
+  abbrev job : Job
+  job = record { limit = Some MAX_TEXT; verdict = verdict }
+
+  -- there was no scene
+  pub scene-undone : (source : Change) (out note : Stream) (stop : NotDone) → ReadsScene source (Err stop) → Does job source (idle out) (idle note) (Err stop)
+  scene-undone source out note (stops.Refused (refusals.Scene fault)) read = (
+    ForTold-weaker source.before.bytes (λ bytes. scene_from bytes ≡ Err fault) (λ bytes. verdict bytes ≡ Refused 2 (fault_text fault)) (λ bytes is. each bytes ∙ ap (on_scene f) is) read.0,
+    Keeps-refl out.bytes,
+    Keeps-refl note.bytes,
+    read.1,
+    refl,
+    refl,
+  )
+  scene-undone source out note (stops.Refused refusals.Usage) read = absurd read
+  scene-undone source out note (stops.Refused (refusals.Bin cells)) read = absurd read
+  scene-undone source out note (stops.Refused refusals.TooLong) read = absurd read
+  scene-undone source out note (stops.Refused refusals.NoFrames) read = absurd read
+  scene-undone source out note stops.ReadFailed read = (read, Keeps-refl out.bytes, Keeps-refl note.bytes, refl, refl)
+  scene-undone source out note stops.WriteFailed read = absurd read
+  scene-undone source out note stops.OutOfMemory read =
+      (ForTold-all source.before.bytes (λ bytes. Begins (verdict bytes) (idle out) (idle note)) (λ bytes. begins-nothing (verdict bytes) out note), read, refl, refl)
+
+  module _ (source out note : Change) (s : SceneValue) (read : ReadsScene source (Ok s)) where
+    -- what holds of the scene's verdict holds of the bytes' verdict
+    lifted : (P : Verdict → Type 0) → P (f s) → ForLeft source (λ bytes. P (verdict bytes))
+    lifted P p =
+        ForTold-weaker source.before.bytes (λ bytes. scene_from bytes ≡ Ok s) (λ bytes. P (verdict bytes)) (λ bytes is. subst P (sym (each bytes ∙ ap (on_scene f) is)) p) read.0
+
+    -- a scene was read, and this came of it
+    pub scene-done : (result : Result Outcome NotDone) → Comes (f s) out note result → Does job source out note result
+    scene-done (Ok outcome) comes = (lifted (λ v. Fulfils v out note (outcome_status outcome)) comes.0, read.1, read.2, comes.1, comes.2)
+    scene-done (Err (stops.Refused refusal)) comes =
+        (lifted (λ v. v ≡ Refused (refusal_status refusal) (refusal_text refusal)) comes.0, comes.1, comes.2, read.2, comes.3, comes.4)
+    scene-done (Err stops.ReadFailed) comes = absurd comes
+    scene-done (Err stops.WriteFailed) comes = (lifted (λ v. Begins v out note) comes.0, read.2, comes.1)
+    scene-done (Err stops.OutOfMemory) comes = (lifted (λ v. Begins v out note) comes.0, read.2, comes.1, comes.2)
 
 -- ---- the plain run
 
--- what a text comes to whose reading is known
-plain-is : (bytes : List ℕ) (s : SceneValue) → scene_from bytes ≡ Ok s → plain_verdict bytes ≡ run_verdict no_rows s
+-- the status of a run is that of its end
+pub same_status : (last : Last) → outcome_status (run_outcome last) ≡ run_status last
+same_status (lasts.Done step) = refl
+same_status (lasts.Passed e) = refl
+
+pub plain-each : (bytes : List ℕ) → plain_verdict bytes ≡ on_scene (run_verdict no_rows) (scene_from bytes)
 unfolding plain_verdict
-plain-is bytes s is = ap (on_scene (run_verdict no_rows)) is
+plain-each bytes = refl
 
-plain-refused : (bytes : List ℕ) (fault : _) → scene_from bytes ≡ Err fault → plain_verdict bytes ≡ Refused 2 (fault_text fault)
-unfolding plain_verdict
-plain-refused bytes fault is = ap (on_scene (run_verdict no_rows)) is
+module _ (out : Change) (note : Stream) (s : SceneValue) where
+  abbrev verdict : Verdict
+  verdict = run_verdict no_rows s
 
--- there was no scene
-pub plain-unread : (source : Change) (out : Stream) (stop : NotDone) → ReadsScene source (Err stop) → DoesQuietly plain_job source (idle out) (Err stop)
-plain-unread source out (stops.Refused (refusals.Scene fault)) read = λ note. (
-  ForTold-weaker source.before.bytes (λ bytes. scene_from bytes ≡ Err fault) (λ bytes. plain_verdict bytes ≡ Refused 2 (fault_text fault)) (λ bytes is. plain-refused bytes fault is) read.0,
-  Keeps-refl out.bytes,
-  Keeps-refl note.bytes,
-  read.1,
-  refl,
-  refl,
-)
-plain-unread source out (stops.Refused refusals.Usage) read = absurd read
-plain-unread source out stops.ReadFailed read = λ note. (read, Keeps-refl out.bytes, Keeps-refl note.bytes, refl, refl)
-plain-unread source out stops.WriteFailed read = absurd read
-plain-unread source out stops.OutOfMemory read = λ note. (ForTold-all source.before.bytes (Begins plain_job (idle out) (idle note)) (begins-nothing plain_job out note), read, refl, refl)
-
-module _ (source out : Change) (s : SceneValue) (read : ReadsScene source (Ok s)) where
-  -- a prefix of the output was written
-  begun : GainsPrefix out (output_of s) → (note : Stream) → ForLeft source (Begins plain_job out (idle note))
-  begun written note =
-      ForTold-weaker source.before.bytes (λ bytes. scene_from bytes ≡ Ok s) (Begins plain_job out (idle note))
-      (λ bytes is. record {
-        written = subst (λ v. GainsPrefix out (out_text v)) (sym (plain-is bytes s is)) written;
-        rows = [];
-        may_be = subst (λ v. MayGain v []) (sym (plain-is bytes s is)) refl;
-        noted = AppendsPrefix-nil note.bytes [];
-      }) read.0
+  begun : GainsPrefix out (output_of s) → Begins verdict out (idle note)
+  begun written = record { written = written; rows = []; may_be = refl; noted = AppendsPrefix-nil note.bytes [] }
 
   -- the run stopped
-  pub plain-stopped : (fault : RunFault) → WritesRun s out.before.bytes out.after.bytes out.before.faults out.after.faults (Err fault) → DoesQuietly plain_job source out (Err (run_stop fault))
-  plain-stopped runs.WriteFault run = λ note. (begun run.0 note, read.2, inl run.1)
-  plain-stopped runs.OutOfMemory run = λ note. (begun run.0 note, read.2, run.1, refl)
-
-  -- the status of a run is that of its end
-  same-status : (last : Last) → outcome_status (run_outcome last) ≡ run_status last
-  same-status (lasts.Done step) = refl
-  same-status (lasts.Passed e) = refl
+  pub plain-stopped : (fault : RunFault) → WritesRun s out.before.bytes out.after.bytes out.before.faults out.after.faults (Err fault) → Comes verdict out (idle note) (Err (run_stop fault))
+  plain-stopped runs.WriteFault run = (begun run.0, inl run.1)
+  plain-stopped runs.OutOfMemory run = (begun run.0, run.1, refl)
 
   -- the run was made
-  pub plain-written : (last : Last) → WritesRun s out.before.bytes out.after.bytes out.before.faults out.after.faults (Ok last) → DoesQuietly plain_job source out (Ok (run_outcome last))
-  plain-written last run = λ note. (
-    ForTold-weaker source.before.bytes (λ bytes. scene_from bytes ≡ Ok s) (Fulfils plain_job out (idle note) (outcome_status (run_outcome last)))
-        (λ bytes is. record {
-          status_is = same-status last ∙ ap run_status run.0 ∙ ap verdict_status (sym (plain-is bytes s is));
-          written = subst (λ v. Gains out (out_text v)) (sym (plain-is bytes s is)) run.1;
-          rows = [];
-          may_be = subst (λ v. MayGain v []) (sym (plain-is bytes s is)) refl;
-          noted = Appends-nil note.bytes;
-        }) read.0,
-    read.1,
-    read.2,
+  pub plain-written : (last : Last) → WritesRun s out.before.bytes out.after.bytes out.before.faults out.after.faults (Ok last) → Comes verdict out (idle note) (Ok (run_outcome last))
+  plain-written last run = (
+    record { status_is = same_status last ∙ ap run_status run.0; written = run.1; rows = []; may_be = refl; noted = Appends-nil note.bytes },
     run.2,
     refl,
   )

@@ -3,3 +3,7 @@ pub mod SceneFacts
 pub mod JobFacts
 pub mod AnswerFacts
 pub mod StreamFacts
+pub mod TurnFacts
+pub mod StandFacts
+pub mod SchedFacts
+pub mod ComparedFacts

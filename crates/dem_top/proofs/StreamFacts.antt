@@ -5,11 +5,12 @@ use Rattle.std.proofs.KnownBytes.{Appends-kept, Keeps-trans}
 use Rattle.dem_outside.specs.Known.{AppendsPrefix}
 use Rattle.dem_outside.specs.Change.{Change, IsKept, Gains, GainsPrefix}
 use Rattle.dem_outside.proofs.Prefixes.{AppendsPrefix-kept, AppendsPrefix-whole}
-use Rattle.dem_top.specs.Verdicts.{read_failed_text, out_text}
+use Rattle.dem_top.specs.Verdicts.{Verdict, read_failed_text, out_text}
 use Rattle.dem_top.specs.Jobs.{Job, ForTold}
 use Rattle.dem_top.specs.Answers.{Fulfils, Begins, FailsToRead, IsVerdict, IsCutShort, IsUnwritten, Answers}
 use Rattle.dem_top.specs.Streams.{passed, with_rest, Serves}
 use Rattle.dem_top.proofs.LeftFacts.{ForTold-weaker}
+use Rattle.dem_top.proofs.JobFacts.{gain-starts}
 
 -- ---- a buffer before a writer
 
@@ -59,26 +60,26 @@ module _ (job : Job) (source out note : Change) (answer : ℕ) (call : Answers j
   noted-prefix : (text : List ℕ) → GainsPrefix note text → GainsPrefix errors text
   noted-prefix text g = subst (λ x. AppendsPrefix c x text) (sym ends) (subst (λ x. AppendsPrefix x note.after.bytes text) starts g)
 
-  fulfils : (bytes : List ℕ) → Fulfils job out note answer bytes → Fulfils job output errors answer bytes
-  fulfils bytes f = record { status_is = f.status_is; written = gains (out_text (job.verdict bytes)) f.written; rows = f.rows; may_be = f.may_be; noted = noted f.rows f.noted }
+  fulfils : (v : Verdict) → Fulfils v out note answer → Fulfils v output errors answer
+  fulfils v f = record { status_is = f.status_is; written = gains (out_text v) f.written; rows = f.rows; may_be = f.may_be; noted = noted f.rows f.noted }
 
-  begun : (bytes : List ℕ) → Begins job out note bytes → Begins job output errors bytes
-  begun bytes f = record { written = gains-prefix (out_text (job.verdict bytes)) f.written; rows = f.rows; may_be = f.may_be; noted = noted-prefix f.rows f.noted }
+  begun : (v : Verdict) → Begins v out note → Begins v output errors
+  begun v f = record { written = gains-prefix (out_text v) f.written; rows = f.rows; may_be = f.may_be; noted = noted-prefix f.rows f.noted }
 
   -- the whole is a prefix
-  begun-whole : (bytes : List ℕ) → Fulfils job output errors answer bytes → Begins job output errors bytes
-  begun-whole bytes f = record {
-    written = AppendsPrefix-whole a (append_known b rest) (out_text (job.verdict bytes)) f.written;
+  begun-whole : (v : Verdict) → Fulfils v output errors answer → Begins v output errors
+  begun-whole v f = record {
+    written = AppendsPrefix-whole a (append_known b rest) (out_text v) f.written;
     rows = f.rows;
-    may_be = f.may_be;
+    may_be = gain-starts v f.rows f.may_be;
     noted = AppendsPrefix-whole c d f.rows f.noted;
   }
 
   abbrev Cut : Type 0
-  Cut = ForTold source.before.bytes (Begins job output errors) ⊎ (IsKept output × GainsPrefix errors read_failed_text)
+  Cut = ForTold source.before.bytes (λ bytes. Begins (job.verdict bytes) output errors) ⊎ (IsKept output × GainsPrefix errors read_failed_text)
 
-  fulfilled : IsVerdict answer → ForTold source.before.bytes (Fulfils job output errors answer)
-  fulfilled is = ForTold-weaker source.before.bytes (Fulfils job out note answer) (Fulfils job output errors answer) fulfils (call.fulfilled is)
+  fulfilled : IsVerdict answer → ForTold source.before.bytes (λ bytes. Fulfils (job.verdict bytes) output errors answer)
+  fulfilled is = ForTold-weaker source.before.bytes (λ bytes. Fulfils (job.verdict bytes) out note answer) (λ bytes. Fulfils (job.verdict bytes) output errors answer) (λ bytes. fulfils (job.verdict bytes)) (call.fulfilled is)
 
   unread : answer ≡ 4 → IsKept output × Gains errors read_failed_text
   unread is = (keeps (call.nothing_written (subst IsUnwritten (sym is) refl)), noted read_failed_text (call.read_failed is).1)
@@ -86,7 +87,7 @@ module _ (job : Job) (source out note : Change) (answer : ℕ) (call : Answers j
   cut : IsCutShort answer → Cut
   cut is =
       ⊎_elim
-      (λ (b : ForTold source.before.bytes (Begins job out note)). inl (ForTold-weaker source.before.bytes (Begins job out note) (Begins job output errors) begun b))
+      (λ (b : ForTold source.before.bytes (λ bytes. Begins (job.verdict bytes) out note)). inl (ForTold-weaker source.before.bytes (λ bytes. Begins (job.verdict bytes) out note) (λ bytes. Begins (job.verdict bytes) output errors) (λ bytes. begun (job.verdict bytes)) b))
       (λ (f : FailsToRead source out note). inr (keeps f.unwritten, noted-prefix read_failed_text f.noted))
       (call.cut_short is)
 
@@ -94,7 +95,7 @@ module _ (job : Job) (source out note : Change) (answer : ℕ) (call : Answers j
   any-cut : Cut
   any-cut =
       ⊎_elim
-      (λ (is : IsVerdict answer). inl (ForTold-weaker source.before.bytes (Fulfils job output errors answer) (Begins job output errors) begun-whole (fulfilled is)))
+      (λ (is : IsVerdict answer). inl (ForTold-weaker source.before.bytes (λ bytes. Fulfils (job.verdict bytes) output errors answer) (λ bytes. Begins (job.verdict bytes) output errors) (λ bytes. begun-whole (job.verdict bytes)) (fulfilled is)))
       (λ (others : (answer ≡ 4) ⊎ IsCutShort answer).
       ⊎_elim (λ (is : answer ≡ 4). let un = unread is in inr (un.0, AppendsPrefix-whole c d read_failed_text un.1)) (λ (is : IsCutShort answer). cut is) others)
       (kinds answer call.known)
@@ -111,7 +112,7 @@ module _ (job : Job) (source out note : Change) (answer : ℕ) (call : Answers j
   -- the buffer passed on all that it held
   pub served : rest ≡ [] → Serves job source.before.bytes (passed a b) (passed c d) answer
   served none = record {
-    fulfilled = λ is. ForTold-weaker source.before.bytes (Fulfils job output errors answer) (Fulfils job (passed a b) (passed c d) answer) (λ bytes f. without bytes f) (fulfilled is);
+    fulfilled = λ is. ForTold-weaker source.before.bytes (λ bytes. Fulfils (job.verdict bytes) output errors answer) (λ bytes. Fulfils (job.verdict bytes) (passed a b) (passed c d) answer) (λ bytes. without (job.verdict bytes)) (fulfilled is);
     read_failed = λ is. let un = unread is in (subst (λ x. Keeps a x) all_passed un.0, un.1);
     cut_short = λ is. (rest, cut is);
     known = call.known;
@@ -119,10 +120,10 @@ module _ (job : Job) (source out note : Change) (answer : ℕ) (call : Answers j
     all_passed : append_known b rest ≡ b
     all_passed = ap (append_known b) none ∙ unbuffered b
 
-    without : (bytes : List ℕ) → Fulfils job output errors answer bytes → Fulfils job (passed a b) (passed c d) answer bytes
-    without bytes f = record {
+    without : (v : Verdict) → Fulfils v output errors answer → Fulfils v (passed a b) (passed c d) answer
+    without v f = record {
       status_is = f.status_is;
-      written = subst (λ x. Appends a x (out_text (job.verdict bytes))) all_passed f.written;
+      written = subst (λ x. Appends a x (out_text v)) all_passed f.written;
       rows = f.rows;
       may_be = f.may_be;
       noted = f.noted;

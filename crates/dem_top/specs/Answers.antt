@@ -1,22 +1,22 @@
 -- What a call promises by its status.
 use Rattle.std.specs.Prelude.{◌≡◌, ℕ, ◌≤◌, ◌==◌, ◌||◌, List, ◌⊎◌, IsTrue}
 use Rattle.dem_outside.specs.Change.{Change, IsKept, IsCalm, Fails, Gains, GainsPrefix}
-use Rattle.dem_top.specs.Verdicts.{verdict_status, out_text, MayGain, read_failed_text}
+use Rattle.dem_top.specs.Verdicts.{Verdict, verdict_status, out_text, MayGain, MayStart, read_failed_text}
 use Rattle.dem_top.specs.Jobs.{Job, Takes, ReadsWhole, ForLeft, ForAnyLeft}
 
--- the input comes to this status; all of its text was written and nothing else, and what may be noted was noted
-pub record Fulfils (job : Job) (out note : Change) (status : ℕ) (bytes : List ℕ) : Type 0 where
-  pub status_is : status ≡ verdict_status (job.verdict bytes)
-  pub written : Gains out (out_text (job.verdict bytes))
+-- an input comes to this status; all of its text was written and nothing else, and what may be noted was noted
+pub record Fulfils (verdict : Verdict) (out note : Change) (status : ℕ) : Type 0 where
+  pub status_is : status ≡ verdict_status verdict
+  pub written : Gains out (out_text verdict)
   pub rows : List ℕ
-  pub may_be : MayGain (job.verdict bytes) rows
+  pub may_be : MayGain verdict rows
   pub noted : Gains note rows
 
--- a prefix was written of what the input comes to, and a prefix noted of what may be noted
-pub record Begins (job : Job) (out note : Change) (bytes : List ℕ) : Type 0 where
-  pub written : GainsPrefix out (out_text (job.verdict bytes))
+-- a prefix was written of what an input comes to, and a prefix noted of what may be noted
+pub record Begins (verdict : Verdict) (out note : Change) : Type 0 where
+  pub written : GainsPrefix out (out_text verdict)
   pub rows : List ℕ
-  pub may_be : MayGain (job.verdict bytes) rows
+  pub may_be : MayStart verdict rows
   pub noted : GainsPrefix note rows
 
 -- a read failed: nothing was written, and a prefix noted of its line
@@ -44,14 +44,14 @@ IsUnwritten status = IsTrue ((status == 1) || ((status == 2) || (status == 4)))
 -- what a call promises
 pub record Answers (job : Job) (source out note : Change) (status : ℕ) : Type 0 where
   -- a status that an input comes to is that of this input, with its whole text and its notes
-  pub fulfilled : IsVerdict status → ForLeft source (Fulfils job out note status)
+  pub fulfilled : IsVerdict status → ForLeft source (λ bytes. Fulfils (job.verdict bytes) out note status)
   pub read_whole : IsDone status → ReadsWhole job.limit source
   -- a read failed: exactly its line
   pub read_failed : status ≡ 4 → Fails source × Gains note read_failed_text
   pub nothing_written : IsUnwritten status → IsKept out
   -- a put failed, or there was no memory: prefixes of what the input comes to
   pub put_failed : status ≡ 5 → Fails out ⊎ Fails note
-  pub cut_short : IsCutShort status → ForLeft source (Begins job out note) ⊎ FailsToRead source out note
+  pub cut_short : IsCutShort status → ForLeft source (λ bytes. Begins (job.verdict bytes) out note) ⊎ FailsToRead source out note
   -- a put that failed is answered by 5; a read that failed by 4, or by 5 where the put of its line failed
   pub calm_sinks : (status ≡ 5) ⊎ (IsCalm out × IsCalm note)
   pub calm_source : IsCalm source ⊎ (IsKept out × ((status ≡ 4) ⊎ (status ≡ 5)))

@@ -6,7 +6,9 @@ use Rattle.dem_words.specs.declared.order.Mode.{Mode}
 use Rattle.dem_words.specs.declared.order.Mode.TheVariants as modes
 use Rattle.dem_model.specs.declared.limits.TheConstants.{MAX_TEXT}
 use Rattle.dem_outside.specs.Change.{Change, IsKept, LosesAtMost}
-use Rattle.dem_top.specs.Verdicts.{Verdict, Refused, usage_text, plain_verdict}
+use Rattle.dem_top.specs.declared.comparison.TheConstants.{MAX_INPUT}
+use Rattle.dem_top.specs.Compared.{check_verdict}
+use Rattle.dem_top.specs.Verdicts.{Verdict, Refused, usage_text, plain_verdict, sched_verdict}
 
 -- what is asked for
 pub record Job : Type 0 where
@@ -19,6 +21,14 @@ pub record Job : Type 0 where
 abbrev pub plain_job : Job
 plain_job = record { limit = Some MAX_TEXT; verdict = plain_verdict }
 
+-- the run of a scene on lists
+abbrev pub sched_job : OrderValue → Job
+sched_job o = record { limit = Some MAX_TEXT; verdict = sched_verdict o }
+
+-- rows compared with the output of a scene
+abbrev pub check_job : Job
+check_job = record { limit = Some MAX_INPUT; verdict = check_verdict }
+
 -- a faulty command line: nothing is read
 abbrev pub usage_job : Job
 usage_job = record { limit = None; verdict = λ _. Refused 1 usage_text }
@@ -26,9 +36,9 @@ usage_job = record { limit = None; verdict = λ _. Refused 1 usage_text }
 -- what an order of this mode asks for; a mode that isn't built is a faulty command line
 abbrev pub job_in : Mode → OrderValue → Job
 job_in modes.Plain o = plain_job
-job_in modes.Sched o = usage_job
+job_in modes.Sched o = sched_job o
 job_in modes.Run o = usage_job
-job_in modes.Check o = usage_job
+job_in modes.Check o = check_job
 job_in modes.Gen o = usage_job
 job_in modes.Resume o = usage_job
 job_in modes.Look o = usage_job

@@ -1,4 +1,6 @@
+pub mod TurnNotes
 pub mod Verdicts
+pub mod Compared
 pub mod Jobs
 pub mod Answers
 pub mod Refusals

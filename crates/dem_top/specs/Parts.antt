@@ -11,6 +11,12 @@ use Rattle.dem_model.specs.declared.fault.SceneFault.{SceneFault}
 use Rattle.dem_model.specs.declared.fault.SceneFault.TheVariants as scenes
 use Rattle.dem_output.specs.declared.running.RunFault.{RunFault}
 use Rattle.dem_output.specs.declared.running.RunFault.TheVariants as runs
+use Rattle.dem_bins.specs.declared.grid.BinTooSmall.{BinTooSmall}
+use Rattle.dem_core.specs.declared.did.WorldStop.{WorldStop}
+use Rattle.dem_core.specs.declared.did.WorldStop.TheVariants as worlds
+use Rattle.dem_model.specs.Plain.{last_of}
+use Rattle.dem_model.specs.Output.{output_of}
+use Rattle.dem_model.specs.declared.state.Turn.{Turn}
 use Rattle.dem_top.specs.declared.reading.ReadFault.{ReadFault}
 use Rattle.dem_top.specs.declared.reading.ReadFault.TheVariants as reading
 use Rattle.dem_top.specs.declared.outcome.Outcome.{Outcome}
@@ -18,7 +24,7 @@ use Rattle.dem_top.specs.declared.outcome.Outcome.TheVariants as outcomes
 use Rattle.dem_top.specs.declared.outcome.NotDone.{NotDone}
 use Rattle.dem_top.specs.declared.outcome.NotDone.TheVariants as stops
 use Rattle.dem_top.specs.declared.refusal.Refusal.TheVariants as refusals
-use Rattle.dem_top.specs.Verdicts.{Refused, read_failed_text}
+use Rattle.dem_top.specs.Verdicts.{Verdict, Refused, OfTurns, MayNote, MayBegin, read_failed_text}
 use Rattle.dem_top.specs.Jobs.{Job, ReadsWhole, ForLeft}
 use Rattle.dem_top.specs.Answers.{Fulfils, Begins}
 use Rattle.dem_top.specs.Refusals.{outcome_status, refusal_status, refusal_text}
@@ -39,6 +45,15 @@ scene_stop fault = stops.Refused (refusals.Scene fault)
 abbrev pub run_stop : RunFault → NotDone
 run_stop runs.WriteFault = stops.WriteFailed
 run_stop runs.OutOfMemory = stops.OutOfMemory
+
+-- a side of bins that is too small
+abbrev pub bin_stop : BinTooSmall → NotDone
+bin_stop too_small = stops.Refused (refusals.Bin too_small.cells)
+
+-- a put that failed, or no memory for the world
+abbrev pub world_stop : WorldStop → NotDone
+world_stop worlds.WriteFault = stops.WriteFailed
+world_stop worlds.OutOfMemory = stops.OutOfMemory
 
 -- how a run ends
 abbrev pub run_outcome : Last → Outcome
@@ -62,17 +77,49 @@ ReadsScene source (Err stops.ReadFailed) = Fails source
 ReadsScene source (Err stops.OutOfMemory) = IsCalm source
 ReadsScene source (Err fault) = ⊥
 
+-- ---- the run on lists
+
+-- prefixes of the output and of the rows of a run with these turns
+pub record HasBegun (s : SceneValue) (drift : ℕ) (turns : List Turn) (out note : Change) : Type 0 where
+  pub written : GainsPrefix out (output_of s)
+  pub rows : List ℕ
+  pub may_be : MayBegin (OfTurns s drift turns) rows
+  pub noted : GainsPrefix note rows
+
+-- the whole output and the whole of the rows of a run with these turns
+pub record HasWritten (s : SceneValue) (drift : ℕ) (turns : List Turn) (out note : Change) (last : Last) : Type 0 where
+  pub last_is : last ≡ last_of s
+  pub written : Gains out (output_of s)
+  pub rows : List ℕ
+  pub may_be : MayNote (OfTurns s drift turns) rows
+  pub noted : Gains note rows
+  pub calm : IsCalm out × IsCalm note
+
+-- a run of this scene on lists, with these turns first: all was written; or prefixes, and why
+abbrev pub RunsTurns : SceneValue → ℕ → List Turn → (out note : Change) → Result Last WorldStop → Type 0
+RunsTurns s drift turns out note (Ok last) = HasWritten s drift turns out note last
+RunsTurns s drift turns out note (Err worlds.WriteFault) = HasBegun s drift turns out note × (Fails out ⊎ Fails note)
+RunsTurns s drift turns out note (Err worlds.OutOfMemory) = HasBegun s drift turns out note × IsCalm out × IsCalm note
+
 -- ---- the job
+
+-- what is written and noted where an input comes to this verdict, by how the job ended
+abbrev pub Comes : Verdict → (out note : Change) → Result Outcome NotDone → Type 0
+Comes verdict out note (Ok outcome) = Fulfils verdict out note (outcome_status outcome) × IsCalm out × IsCalm note
+Comes verdict out note (Err (stops.Refused refusal)) = (verdict ≡ Refused (refusal_status refusal) (refusal_text refusal)) × IsKept out × IsKept note × IsCalm out × IsCalm note
+Comes verdict out note (Err stops.ReadFailed) = ⊥
+Comes verdict out note (Err stops.WriteFailed) = Begins verdict out note × (Fails out ⊎ Fails note)
+Comes verdict out note (Err stops.OutOfMemory) = Begins verdict out note × IsCalm out × IsCalm note
 
 -- what a job does, by its answer
 abbrev pub Does : Job → (source out note : Change) → Result Outcome NotDone → Type 0
 Does job source out note (Ok outcome) =
-    ForLeft source (Fulfils job out note (outcome_status outcome)) × ReadsWhole job.limit source × IsCalm source × IsCalm out × IsCalm note
+    ForLeft source (λ bytes. Fulfils (job.verdict bytes) out note (outcome_status outcome)) × ReadsWhole job.limit source × IsCalm source × IsCalm out × IsCalm note
 Does job source out note (Err (stops.Refused refusal)) =
     ForLeft source (λ bytes. job.verdict bytes ≡ Refused (refusal_status refusal) (refusal_text refusal)) × IsKept out × IsKept note × IsCalm source × IsCalm out × IsCalm note
 Does job source out note (Err stops.ReadFailed) = Fails source × IsKept out × IsKept note × IsCalm out × IsCalm note
-Does job source out note (Err stops.WriteFailed) = ForLeft source (Begins job out note) × IsCalm source × (Fails out ⊎ Fails note)
-Does job source out note (Err stops.OutOfMemory) = ForLeft source (Begins job out note) × IsCalm source × IsCalm out × IsCalm note
+Does job source out note (Err stops.WriteFailed) = ForLeft source (λ bytes. Begins (job.verdict bytes) out note) × IsCalm source × (Fails out ⊎ Fails note)
+Does job source out note (Err stops.OutOfMemory) = ForLeft source (λ bytes. Begins (job.verdict bytes) out note) × IsCalm source × IsCalm out × IsCalm note
 
 -- a sink that isn't touched
 abbrev pub idle : Stream → Change

@@ -1,23 +1,30 @@
 -- The status and the line of each refusal, and the status of each outcome.
 use Rattle.std.specs.Prelude.{ℕ, List}
 use Rattle.dem_model.specs.ReadingFaults.{fault_text}
-use Rattle.dem_top.specs.Verdicts.{usage_text}
+use Rattle.dem_top.specs.Verdicts.{usage_text, bin_text, too_long_text, no_frames_text}
 use Rattle.dem_top.specs.declared.outcome.Outcome.{Outcome}
-use Rattle.dem_top.specs.declared.outcome.Outcome.TheVariants.{Reached, Passed}
+use Rattle.dem_top.specs.declared.outcome.Outcome.TheVariants.{Reached, Passed, Differs}
 use Rattle.dem_top.specs.declared.refusal.Refusal.{Refusal}
-use Rattle.dem_top.specs.declared.refusal.Refusal.TheVariants.{Usage, Scene}
+use Rattle.dem_top.specs.declared.refusal.Refusal.TheVariants.{Usage, Scene, Bin, TooLong, NoFrames}
 
 -- the status of a job that was done
 abbrev pub outcome_status : Outcome → ℕ
 outcome_status Reached = 0
 outcome_status Passed = 3
+outcome_status Differs = 7
 
 -- the status of a refusal
 abbrev pub refusal_status : Refusal → ℕ
 refusal_status Usage = 1
 refusal_status (Scene fault) = 2
+refusal_status (Bin cells) = 2
+refusal_status TooLong = 2
+refusal_status NoFrames = 2
 
 -- the line of a refusal
 abbrev pub refusal_text : Refusal → List ℕ
 refusal_text Usage = usage_text
 refusal_text (Scene fault) = fault_text fault
+refusal_text (Bin cells) = bin_text cells
+refusal_text TooLong = too_long_text
+refusal_text NoFrames = no_frames_text

@@ -17,10 +17,10 @@ with_rest rest out = record out { after = record { bytes = append_known out.afte
 -- what a call over streams promises
 pub record Serves (job : Job) (left : Option (List ℕ)) (out note : Change) (status : ℕ) : Type 0 where
   -- a status that the input comes to: its whole text reached the writer, and its line or its rows the other
-  pub fulfilled : IsVerdict status → ForTold left (Fulfils job out note status)
+  pub fulfilled : IsVerdict status → ForTold left (λ bytes. Fulfils (job.verdict bytes) out note status)
   -- a read failed: its line and nothing else
   pub read_failed : status ≡ 4 → IsKept out × Gains note read_failed_text
   -- a write or a flush failed, or there was no memory: prefixes, of which some rest may not have reached the writer
   pub cut_short : IsCutShort status → (rest : List ℕ)
-      × (ForTold left (Begins job (with_rest rest out) note) ⊎ (IsKept (with_rest rest out) × GainsPrefix note read_failed_text))
+      × (ForTold left (λ bytes. Begins (job.verdict bytes) (with_rest rest out) note) ⊎ (IsKept (with_rest rest out) × GainsPrefix note read_failed_text))
   pub known : status ≤ 7

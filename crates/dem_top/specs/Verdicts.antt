@@ -1,5 +1,10 @@
 -- What an input comes to: a status, a text on `out`, and what `note` may gain.
-use Rattle.std.specs.Prelude.{◌≡◌, ℕ, List, [], codes, Result, Ok, Err}
+use Rattle.std.specs.Prelude.{◌≡◌, ℕ, List, [], ◌++◌, ◌⊎◌, codes, decimal, Result, Ok, Err, nat_lt, if◌then◌else◌}
+use Rattle.dem_bins.specs.Bins.{grid_of, cells_across}
+use Rattle.dem_bins.specs.declared.grid.TheConstants.{MAX_CELLS}
+use Rattle.dem_words.specs.Orders.{OrderValue}
+use Rattle.dem_top.specs.TurnNotes.{NotesWhole, NotesSoFar}
+use Rattle.dem_model.specs.declared.state.Turn.{Turn}
 use Rattle.dem_model.specs.SceneValue.{SceneValue}
 use Rattle.dem_model.specs.declared.fault.SceneFault.{SceneFault}
 use Rattle.dem_model.specs.declared.state.Last.{Last}
@@ -13,14 +18,22 @@ use Rattle.dem_model.specs.Output.{output_of}
 pub data Notes : Type 0 where
   -- these and no others, as one text
   Exactly : List ℕ → Notes
-
--- these rows may be noted
-abbrev pub MayNote : Notes → List ℕ → Type 0
-MayNote (Exactly rows) noted = noted ≡ rows
+  -- those of a run of this scene on lists under this drift limit, with these turns first
+  OfTurns : SceneValue → ℕ → List Turn → Notes
 
 -- no rows at all
 abbrev pub no_rows : Notes
 no_rows = Exactly []
+
+-- these rows may be noted
+abbrev pub MayNote : Notes → List ℕ → Type 0
+MayNote (Exactly rows) noted = noted ≡ rows
+MayNote (OfTurns s drift turns) noted = NotesWhole s drift turns noted
+
+-- these rows may have been noted when a job is cut short, or a prefix of them
+abbrev pub MayBegin : Notes → List ℕ → Type 0
+MayBegin (Exactly rows) noted = noted ≡ rows
+MayBegin (OfTurns s drift turns) noted = NotesSoFar s drift turns noted ⊎ NotesWhole s drift turns noted
 
 -- what an input comes to: it is refused, with a status and a line on `note`; or a text is written, with a status and rows that may be noted
 pub data Verdict : Type 0 where
@@ -42,6 +55,11 @@ abbrev pub MayGain : Verdict → List ℕ → Type 0
 MayGain (Refused status line) noted = noted ≡ line
 MayGain (Written status text notes) noted = MayNote notes noted
 
+-- what a prefix may be of that `note` gains by a verdict where a job is cut short
+abbrev pub MayStart : Verdict → List ℕ → Type 0
+MayStart (Refused status line) noted = noted ≡ line
+MayStart (Written status text notes) noted = MayBegin notes noted
+
 -- ---- the lines
 
 -- the usage line
@@ -51,6 +69,18 @@ usage_text = codes "usage: dem MODE [--drift N] [--bin N] [--turns T] [--seed N]
 -- the line of a read that failed
 abbrev pub read_failed_text : List ℕ
 read_failed_text = codes "read failed\n"
+
+-- the line of an input of `check` that is too long
+abbrev pub too_long_text : List ℕ
+too_long_text = codes "input: longer than 268435456 bytes\n"
+
+-- the line of an input of `check` without a line between its scene and its rows
+abbrev pub no_frames_text : List ℕ
+no_frames_text = codes "frames: missing\n"
+
+-- the line of a side of bins that is too small
+unfoldable pub bin_text : ℕ → List ℕ
+bin_text cells = codes "bin: " ++ decimal cells ++ codes " cells, limit 8\n"
 
 -- ---- what the text of a scene comes to
 
@@ -71,3 +101,19 @@ on_scene f (Err fault) = Refused 2 (fault_text fault)
 -- the plain run
 unfoldable pub plain_verdict : List ℕ → Verdict
 plain_verdict bytes = on_scene (run_verdict no_rows) (scene_from bytes)
+
+-- a grid of bins is needed whose spheres may meet so many cells on an axis: it is refused above 8
+abbrev pub on_grid : ℕ → Verdict → Verdict
+on_grid cells verdict = if nat_lt MAX_CELLS cells then Refused 2 (bin_text cells) else verdict
+
+-- what a run with turns notes, where it is asked to
+abbrev pub sched_notes : OrderValue → SceneValue → Notes
+sched_notes o s = if o.report then OfTurns s o.drift o.turns else no_rows
+
+-- the run of a scene on lists: its grid, and then the output of the plain run
+unfoldable pub sched_of : OrderValue → SceneValue → Verdict
+sched_of o s = on_grid (cells_across s (grid_of s o.drift o.bin)) (run_verdict (sched_notes o s) s)
+
+-- the run on lists
+unfoldable pub sched_verdict : OrderValue → List ℕ → Verdict
+sched_verdict o bytes = on_scene (sched_of o) (scene_from bytes)

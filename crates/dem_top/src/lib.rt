@@ -6,13 +6,17 @@
 //! other status with its cause, and with prefixes. Takes memory: all three. Not here: the words (dem_words), the runs (dem_output).
 #![tactic(auto)]
 
+mod comparison;
+mod difference;
 mod outcome;
 mod plain;
 mod reading;
 mod refusal;
+mod sched;
 mod status;
 mod streams;
 mod top;
+mod turns;
 
 pub use streams::{Served, Writers, stream_call};
 pub use top::{main_call, quiet_call};

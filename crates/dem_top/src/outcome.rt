@@ -2,14 +2,17 @@
 ghost use Rattle.std.specs.Prelude.{◌≡◌};
 ghost use Rattle.dem_outside.specs.Change.{change};
 ghost use Rattle.dem_top.specs.Refusals.{outcome_status as outcome_status_of};
-ghost use Rattle.dem_top.specs.Parts.{read_stop, scene_stop, run_stop, run_outcome, Tells};
+ghost use Rattle.dem_top.specs.Parts.{read_stop, scene_stop, run_stop, bin_stop, world_stop, run_outcome, Tells};
+ghost use Rattle.dem_top.specs.declared.outcome.NotDone.TheVariants as stops;
 
 use crate::reading::ReadFault;
 use crate::refusal::{Refusal, put_line, refuse};
 use crate::status::{OUT_OF_MEMORY, READ_FAILED, WRITE_FAILED};
-use dem_model::Last;
+use dem_bins::BinTooSmall;
+use dem_core::WorldStop;
+use dem_model::{Last, OutOfMemory};
 use dem_output::RunFault;
-use dem_outside::Sink;
+use dem_outside::{Failed, Sink};
 use dem_scene::SceneFault;
 
 /// How a job ended that was done.
@@ -19,6 +22,8 @@ pub(crate) enum Outcome {
     Reached,
     /// A limit was passed.
     Passed,
+    /// The rows aren't the output.
+    Differs,
 }
 
 /// Why a job wasn't done.
@@ -74,6 +79,41 @@ impl From<RunFault> for NotDone {
     }
 }
 
+impl From<BinTooSmall> for NotDone {
+    ghost from_gives = { λ f s. s ≡ bin_stop f };
+
+    fn from(fault: BinTooSmall) -> NotDone {
+        NotDone::Refused(Refusal::Bin(fault.cells))
+    }
+}
+
+impl From<WorldStop> for NotDone {
+    ghost from_gives = { λ f s. s ≡ world_stop f };
+
+    fn from(stop: WorldStop) -> NotDone {
+        match stop {
+            WorldStop::WriteFault => NotDone::WriteFailed,
+            WorldStop::OutOfMemory => NotDone::OutOfMemory,
+        }
+    }
+}
+
+impl From<Failed> for NotDone {
+    ghost from_gives = { λ _ s. s ≡ stops.WriteFailed };
+
+    fn from(_: Failed) -> NotDone {
+        NotDone::WriteFailed
+    }
+}
+
+impl From<OutOfMemory> for NotDone {
+    ghost from_gives = { λ _ s. s ≡ stops.OutOfMemory };
+
+    fn from(_: OutOfMemory) -> NotDone {
+        NotDone::OutOfMemory
+    }
+}
+
 const READ_FAILED_LINE: &[u8] = b"read failed\n";
 
 // The status of a job that was done.
@@ -83,6 +123,7 @@ fn outcome_status(outcome: Outcome) -> u8
     match outcome {
         Outcome::Reached => 0,
         Outcome::Passed => 3,
+        Outcome::Differs => 7,
     }
 }
 

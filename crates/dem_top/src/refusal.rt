@@ -1,12 +1,15 @@
 //! Why words or an input are refused, and the line of each refusal.
 ghost use Rattle.std.specs.Prelude.{◌≡◌, length};
 ghost use Rattle.dem_outside.specs.Change.{change};
+ghost use Rattle.dem_top.specs.Verdicts.{bin_text};
 ghost use Rattle.dem_top.specs.Refusals.{refusal_text, refusal_status as refusal_status_of};
 ghost use Rattle.dem_top.specs.Parts.{PutsLine};
 
 use crate::status::WRITE_FAILED;
+use arrayvec::ArrayVec;
 use dem_outside::{Failed, Sink};
 use dem_scene::{SceneFault, fault_line};
+use itoa::Buffer;
 
 /// Why words or an input are refused.
 #[derive(Clone, Copy, PartialEq, Debug)]
@@ -15,10 +18,37 @@ pub(crate) enum Refusal {
     Usage,
     /// The scene text is refused.
     Scene(SceneFault),
+    /// The bins are so small that a sphere might meet this many cells on an axis.
+    Bin(u64),
+    /// The input is longer than it may be.
+    TooLong,
+    /// The line between a scene and its rows is missing.
+    NoFrames,
 }
 
 const USAGE: &[u8] =
     b"usage: dem MODE [--drift N] [--bin N] [--turns T] [--seed N] [--count N] [--report] [--split]\n";
+
+const TOO_LONG: &[u8] = b"input: longer than 268435456 bytes\n";
+
+const NO_FRAMES: &[u8] = b"frames: missing\n";
+
+/// The longest line of a refused bin has 41 bytes: `bin: `, a number of 20, ` cells, limit 8` and a newline.
+const BIN_ROOM: usize = 48;
+
+// The line of bins that are too small.
+#[tactic(auto, unfolding(crate::specs::Verdicts::bin_text))]
+fn bin_line(cells: u64) -> ArrayVec<u8, BIN_ROOM>
+    ensures { result.items ≡ bin_text cells }
+{
+    let mut digits = Buffer::new();
+    let mut line = ArrayVec::new();
+    line.try_extend_from_slice(b"bin: ").unwrap();
+    line.try_extend_from_slice(digits.format(cells).as_bytes())
+        .unwrap();
+    line.try_extend_from_slice(b" cells, limit 8\n").unwrap();
+    line
+}
 
 /// The status of a refusal.
 pub(crate) fn refusal_status(refusal: Refusal) -> u8
@@ -26,7 +56,7 @@ pub(crate) fn refusal_status(refusal: Refusal) -> u8
 {
     match refusal {
         Refusal::Usage => 1,
-        Refusal::Scene(_) => 2,
+        Refusal::Scene(_) | Refusal::Bin(_) | Refusal::TooLong | Refusal::NoFrames => 2,
     }
 }
 
@@ -38,6 +68,9 @@ pub(crate) fn refuse<N: Sink>(refusal: Refusal, note: &mut N) -> u8
     match refusal {
         Refusal::Usage => put_line(USAGE, status, note),
         Refusal::Scene(fault) => put_line(fault_line(fault).as_slice(), status, note),
+        Refusal::Bin(cells) => put_line(bin_line(cells).as_slice(), status, note),
+        Refusal::TooLong => put_line(TOO_LONG, status, note),
+        Refusal::NoFrames => put_line(NO_FRAMES, status, note),
     }
 }
 

@@ -88,6 +88,36 @@ fn writes_the_output_and_nothing_else(rt: HostRuntime) -> Result<(), TestFail> {
 }
 
 #[test]
+fn writes_the_same_by_turns(rt: HostRuntime) -> Result<(), TestFail> {
+    for (text, status, output) in [(STILL, 0, STILL_OUT), (PULLED, 3, PULLED_OUT)] {
+        let words = ["dem", "sched", "--drift", "1", "--turns", "ptdcs"];
+        let left = call(rt.alloc(), words.as_slice(), calm(text))?;
+        assert_eq!(rt; left.status, status);
+        assert_eq!(rt; left.out.held(), output);
+        assert_eq!(rt; left.note.held(), b"".as_slice());
+    }
+    Ok(())
+}
+
+#[test]
+fn notes_its_tests_where_asked(rt: HostRuntime) -> Result<(), TestFail> {
+    let left = call(rt.alloc(), &["dem", "sched", "--report"], calm(STILL))?;
+    assert_eq!(rt; left.status, 0);
+    assert_eq!(rt; left.note.held(), b"tests,0\n".as_slice());
+    Ok(())
+}
+
+#[test]
+fn refuses_bins_that_are_too_small(rt: HostRuntime) -> Result<(), TestFail> {
+    let words = ["dem", "sched", "--drift", "0", "--bin", "1"];
+    let left = call(rt.alloc(), words.as_slice(), calm(STILL))?;
+    assert_eq!(rt; left.status, 2);
+    assert_eq!(rt; left.out.held(), b"".as_slice());
+    assert_eq!(rt; left.note.held(), b"bin: 22 cells, limit 8\n".as_slice());
+    Ok(())
+}
+
+#[test]
 fn reads_one_byte_at_a_time(rt: HostRuntime) -> Result<(), TestFail> {
     let mut outside = calm(STILL);
     outside.piece = 1;

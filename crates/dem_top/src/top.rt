@@ -2,12 +2,14 @@
 ghost use Rattle.dem_outside.specs.Change.{change};
 ghost use Rattle.dem_words.specs.Meaning.{words_of};
 ghost use Rattle.dem_top.specs.Jobs.{job_of, job_meant, Takes};
-ghost use Rattle.dem_top.specs.Parts.{DoesQuietly};
+ghost use Rattle.dem_top.specs.Parts.{Does};
 ghost use Rattle.dem_top.specs.Answers.{Answers};
 
+use crate::comparison::compare;
 use crate::outcome::{NotDone, Outcome, tell};
 use crate::plain::plain;
 use crate::refusal::{Refusal, refuse};
+use crate::sched::sched;
 use crate::status::OUT_OF_MEMORY;
 use dem_outside::{Sink, Source};
 use dem_words::{Mode, Order, WordFault, read_words};
@@ -61,27 +63,27 @@ fn answer<S: Source, K: Sink, N: Sink>(
     ensures { Answers (job_of order.now) (change S.left S.faults source.old source.new) (change K.held K.faults out.old out.new)
         (change N.held N.faults note.old note.new) result }
 {
-    tell(carry_out(alloc, order, source, out), note)
+    tell(carry_out(alloc, order, source, out, note), note)
 }
 
 // Does the job of an order.
-fn carry_out<S: Source, K: Sink>(
+fn carry_out<S: Source, K: Sink, N: Sink>(
     alloc: Global,
     order: &Order,
     source: &mut S,
     out: &mut K,
+    note: &mut N,
 ) -> Result<Outcome, NotDone>
-    ensures does { DoesQuietly (job_of order.now) (change S.left S.faults source.old source.new) (change K.held K.faults out.old out.new) result }
+    ensures does { Does (job_of order.now) (change S.left S.faults source.old source.new) (change K.held K.faults out.old out.new)
+        (change N.held N.faults note.old note.new) result }
     ensures taken { Takes (job_of order.now).limit (change S.left S.faults source.old source.new) }
 {
     match order.mode {
         Mode::Plain => plain(alloc, source, out),
-        Mode::Sched
-        | Mode::Run
-        | Mode::Check
-        | Mode::Gen
-        | Mode::Resume
-        | Mode::Look
-        | Mode::Pack => Err(NotDone::Refused(Refusal::Usage)),
+        Mode::Sched => sched(alloc, order, source, out, note),
+        Mode::Check => compare(alloc, source, out),
+        Mode::Run | Mode::Gen | Mode::Resume | Mode::Look | Mode::Pack => {
+            Err(NotDone::Refused(Refusal::Usage))
+        }
     }
 }

@@ -57,7 +57,7 @@ fn takes_the_greatest_numbers(rt: HostRuntime) -> Result<(), Fail> {
     let numbers = ["--drift", "1024", "--bin", "274877906944"];
     let made = ["--count", "16384", "--seed", "18446744073709551615"];
     let mut words = Vec::new(rt.alloc());
-    for word in ["dem", "gen", "--split"]
+    for word in ["dem", "sched", "--split"]
         .iter()
         .chain(numbers.iter())
         .chain(made.iter())
@@ -65,7 +65,7 @@ fn takes_the_greatest_numbers(rt: HostRuntime) -> Result<(), Fail> {
         words.push(*word)?;
     }
     let order = read(rt.alloc(), words.as_slice())?.expect(&rt, "an order");
-    assert_eq!(rt; order.mode, Mode::Gen);
+    assert_eq!(rt; order.mode, Mode::Sched);
     assert_eq!(rt; order.drift, 1024);
     assert_eq!(rt; order.bin, 1 << 38);
     assert_eq!(rt; order.count, 16_384);
@@ -78,7 +78,6 @@ fn takes_the_greatest_numbers(rt: HostRuntime) -> Result<(), Fail> {
 fn refuses_what_the_command_refuses(rt: HostRuntime) -> Result<(), Fail> {
     for words in [
         ["dem"].as_slice(),
-        [].as_slice(),
         ["dem", "plain", "more"].as_slice(),
         ["dem", "--help"].as_slice(),
         ["dem", "plain", "-h"].as_slice(),
@@ -106,9 +105,10 @@ fn refuses_a_wrong_value(rt: HostRuntime) -> Result<(), Fail> {
         ["dem", "sched", "--drift="].as_slice(),
         ["dem", "sched", "--bin", "274877906945"].as_slice(),
         ["dem", "sched", "--turns", "px"].as_slice(),
-        ["dem", "gen", "--seed", "18446744073709551616"].as_slice(),
-        ["dem", "gen", "--count", "0"].as_slice(),
-        ["dem", "gen", "--count", "16385"].as_slice(),
+        ["dem", "gen"].as_slice(),
+        ["dem", "sched", "--seed", "18446744073709551616"].as_slice(),
+        ["dem", "sched", "--count", "0"].as_slice(),
+        ["dem", "sched", "--count", "16385"].as_slice(),
     ] {
         assert!(rt; matches!(read(rt.alloc(), words)?, Err(WordFault::Usage)));
     }

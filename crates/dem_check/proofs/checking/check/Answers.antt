@@ -14,7 +14,7 @@ returns-in-Ok c =
 pub returns-in-WriteFault : goal.returns-in-WriteFault
 returns-in-WriteFault c =
     let run = subst (λ fault. WritesRun c.args.scene.now (Some (marked c.new-out.result)) (Some (marked c.write_run-run.new.out)) c.new-out.result.faults c.write_run-run.new.out.faults (Err fault))
-        c.in-WriteFault.is c.in-Err.ensures in
+    c.in-WriteFault.is c.in-Err.ensures in
     stopped c.args.text.now (output_of c.args.scene.now) c.write_run-run.new.out c.verdict-in-WriteFault.result (bytes-from c.args.text.now (λ i. (c.type_inv.text i).fits))
     c.is_short-short.ensures.bytes c.verdict-in-WriteFault.ensures c.new-out.result.faults (ap (λ (v : Comparison). v.faults) c.new-out.ensures) run.1
     c.is_short-short.ensures.stops (sym c.is_short-short.ensures.value ∙ c.if-not-short.true) run.0.0 run.0.1 run.0.2

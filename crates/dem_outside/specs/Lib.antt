@@ -3,3 +3,4 @@ pub mod Known
 pub mod MemSourceValue
 pub mod MemSinkValue
 pub mod Change
+pub mod Meeting

@@ -1,5 +1,9 @@
 //! The fakes fail where they were told to, and each adapter passes on what its stream does.
-use crate::{BlankSink, Fail, Failed, MemSink, MemSource, RealSink, RealSource, Sink, Source};
+use crate::hold_gate::Place;
+use crate::{
+    BlankSink, Fail, Failed, Gate, HoldGate, MemSink, MemSource, OpenGate, Point, RealSink,
+    RealSource, Sink, Source,
+};
 use dem_model::List;
 use std::io;
 use std::io::{Error, ErrorKind, Read, Write};
@@ -82,4 +86,42 @@ fn real_sink_writes_and_counts(rt: HostRuntime) {
     assert_eq!(rt; sink.into_writer().len(), 0);
     assert_eq!(rt; RealSink::new(Gone).put(b"a"), Err(Failed));
     assert_eq!(rt; RealSink::new(Gone).put(b""), Ok(()));
+}
+
+#[test]
+fn one_thread_alone_gives_up(rt: HostRuntime) {
+    let (step, deliver) = (Place::new(Point::Step, 4), Place::new(Point::Deliver, 2));
+    let gate = HoldGate::with_patience(step, deliver, 10);
+    gate.pass(Point::Step, 3);
+    gate.pass(Point::Deliver, 4);
+    assert!(rt; !gate.arrived() && !gate.gave_up());
+    gate.pass(Point::Step, 4);
+    assert!(rt; !gate.arrived() && gate.gave_up());
+    gate.pass(Point::Deliver, 2);
+    assert!(rt; gate.arrived() && gate.gave_up());
+}
+
+#[test]
+fn two_threads_meet(rt: HostRuntime) {
+    let gate = HoldGate::meet(Point::Step, 4, Point::Deliver, 2);
+    std::thread::join(
+        &rt,
+        || gate.pass(Point::Step, 4),
+        || gate.pass(Point::Deliver, 2),
+    );
+    assert!(rt; gate.arrived() && !gate.gave_up());
+    gate.pass(Point::Step, 4);
+    assert!(rt; gate.arrived() && !gate.gave_up());
+}
+
+#[test]
+fn one_action_may_meet_itself(rt: HostRuntime) {
+    let gate = HoldGate::meet(Point::Post, 1, Point::Post, 1);
+    gate.pass(Point::Post, 1);
+    assert!(rt; gate.arrived() && !gate.gave_up());
+}
+
+#[test]
+fn everyone_passes_an_open_gate(_rt: HostRuntime) {
+    OpenGate.pass(Point::Collect, 1);
 }

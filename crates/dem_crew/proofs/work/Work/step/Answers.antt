@@ -1,0 +1,40 @@
+use Rattle.std.proofs.Common.{◌≡◌, ◌+◌, true, ℕ, List, Option, length, ap, ◌∙◌, arith, rules}
+use Rattle.dem_outside.specs.Known.{AppendsPrefix}
+use Rattle.dem_model.specs.Output.{output_of}
+use Rattle.dem_model.specs.World.{may_step}
+use Rattle.dem_core.specs.Courses.{Running}
+use Rattle.dem_crew.specs.Working.{IsKeptUp}
+use Rattle.dem_crew.proofs.WorkFacts.{on-err, few-stepped, run-tests, at_work-stepped, kept-stepped, prefix-stepped}
+use Rattle.dem_crew.proofs.work.Work.step.Goals as goal
+
+pub returns-in_err-step-clause-few : goal.returns-in_err-step-clause-few
+returns-in_err-step-clause-few g c = few-stepped c.args.self.now.lists _ _ c.args.self.now.course.course c.step.new.self c.step.ensures.stepped
+
+pub returns-in_err-step-clause-at_work : goal.returns-in_err-step-clause-at_work
+returns-in_err-step-clause-at_work g c = λ table seat h. at_work-stepped table seat c.args.self.now c.step.new.self c.step.ensures.stepped h
+
+pub returns-in_err-step-clause-so_far : goal.returns-in_err-step-clause-so_far
+returns-in_err-step-clause-so_far g c =
+    let work = c.args.self.now in
+    let may : may_step work.course.scene work.course.drift work.course.course ≡ true = search rules in
+    let f : (o n note : Option (List ℕ)) → IsKeptUp o (g.K.Sink.held c.args.out.now) n note c.args.self.now → AppendsPrefix o (g.K.Sink.held c.step.new.out) (output_of c.args.self.now.course.scene) =
+    λ o n note k. prefix-stepped o _ _ n note c.args.self.now c.now.ensures.course may c.in_err-step.ensures.written k in
+    on-err _ f
+
+pub returns-in_err-step-clause-counted : goal.returns-in_err-step-clause-counted
+returns-in_err-step-clause-counted g c = omega (arith, run-tests _ _ c.args.self.now.course.course c.step.new.self c.step.ensures.stepped, c.step.ensures.counted)
+
+pub returns-clause-few : goal.returns-clause-few
+returns-clause-few g c = few-stepped c.args.self.now.lists _ _ c.args.self.now.course.course c.step.new.self c.step.ensures.stepped
+
+pub returns-clause-at_work : goal.returns-clause-at_work
+returns-clause-at_work g c = λ table seat h. at_work-stepped table seat c.args.self.now c.step.new.self c.step.ensures.stepped h
+
+pub returns-clause-kept : goal.returns-clause-kept
+returns-clause-kept g c =
+    let work = c.args.self.now in
+    let may : may_step work.course.scene work.course.drift work.course.course ≡ true = search rules in
+    λ o n note k. kept-stepped o _ _ n note c.args.self.now c.step.new.self c.now.ensures.course may c.step.ensures.stepped c.in_ok-step.ensures.written k
+
+pub returns-clause-counted : goal.returns-clause-counted
+returns-clause-counted g c = omega (arith, run-tests _ _ c.args.self.now.course.course c.step.new.self c.step.ensures.stepped, c.step.ensures.counted)

@@ -2,6 +2,7 @@
 
 use crate::{Line, Verdict, check};
 use dem_gen::made_scene;
+use dem_model::OutOfMemory;
 use std::alloc::Global;
 use std::test::Fail;
 
@@ -20,9 +21,9 @@ const ROW: &[u8] = b"clump,0,3161966,3159953,3161620,4819651,831654,3162689,1073
 const END: &[u8] = b"end,done,100";
 
 // The verdict on a text.
-fn verdict(alloc: Global, text: &[u8]) -> Verdict {
-    let scene = made_scene(alloc, 0, 1).unwrap();
-    check(alloc, &scene, text).unwrap()
+fn verdict(alloc: Global, text: &[u8]) -> Result<Verdict, OutOfMemory> {
+    let scene = made_scene(alloc, 0, 1)?;
+    check(alloc, &scene, text)
 }
 
 // Whether a line has this text, or there is none where none is wanted.
@@ -45,31 +46,35 @@ fn differs(verdict: &Verdict, at: u64, text: Option<&[u8]>, output: Option<&[u8]
 }
 
 #[test]
-fn takes_the_output(rt: HostRuntime) {
-    assert!(rt; matches!(verdict(rt.alloc(), OUTPUT), Verdict::Same));
+fn takes_the_output(rt: HostRuntime) -> Result<(), Fail> {
+    let told = verdict(rt.alloc(), OUTPUT)?;
+    assert!(rt; matches!(told, Verdict::Same));
+    Ok(())
 }
 
 #[test]
-fn tells_the_first_row_that_differs(rt: HostRuntime) {
-    let told = verdict(rt.alloc(), OTHER);
+fn tells_the_first_row_that_differs(rt: HostRuntime) -> Result<(), Fail> {
+    let told = verdict(rt.alloc(), OTHER)?;
     assert!(rt; differs(&told, 4, Some(OTHER_ROW), Some(ROW)));
-    let told = verdict(rt.alloc(), b"");
+    let told = verdict(rt.alloc(), b"")?;
     assert!(rt; differs(&told, 1, None, Some(b"frame,0")));
+    Ok(())
 }
 
 #[test]
-fn tells_an_end_that_is_missing(rt: HostRuntime) {
-    let told = verdict(rt.alloc(), &OUTPUT[..OUTPUT.len() - 13]);
+fn tells_an_end_that_is_missing(rt: HostRuntime) -> Result<(), Fail> {
+    let told = verdict(rt.alloc(), &OUTPUT[..OUTPUT.len() - 13])?;
     assert!(rt; differs(&told, 5, None, Some(END)));
-    let told = verdict(rt.alloc(), &OUTPUT[..OUTPUT.len() - 1]);
+    let told = verdict(rt.alloc(), &OUTPUT[..OUTPUT.len() - 1])?;
     assert!(rt; differs(&told, 5, Some(END), Some(END)));
+    Ok(())
 }
 
 #[test]
 fn tells_a_row_too_many(rt: HostRuntime) -> Result<(), Fail> {
     let mut text = Vec::from_slice(rt.alloc(), OUTPUT)?;
     text.push(b'\n')?;
-    let told = verdict(rt.alloc(), text.as_slice());
+    let told = verdict(rt.alloc(), text.as_slice())?;
     assert!(rt; differs(&told, 6, Some(b""), None));
     Ok(())
 }

@@ -4,4 +4,3 @@ pub mod ListFacts
 pub mod MetFacts
 pub mod StepFacts
 pub mod KeptFacts
-pub mod FacingFacts

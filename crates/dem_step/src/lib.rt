@@ -11,7 +11,5 @@
 mod advancing;
 mod meeting;
 mod stepper;
-#[cfg(test)]
-mod tests;
 
 pub use stepper::Dyn;

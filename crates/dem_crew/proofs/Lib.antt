@@ -1,1 +1,3 @@
+pub mod GoingOnFacts
+pub mod NotedFacts
 pub mod WorkFacts

@@ -6,7 +6,7 @@ ghost use Rattle.dem_model.specs.Output.{output_of};
 ghost use Rattle.dem_bins.specs.Bins.{IsGridOf};
 ghost use Rattle.dem_core.specs.Courses.{IsOnCourse};
 ghost use Rattle.dem_core.specs.Worlds.{HasFaults};
-ghost use Rattle.dem_crew.specs.Running.{HasRun};
+ghost use Rattle.dem_crew.specs.Running.{HasRun, HasNoted};
 ghost use Rattle.dem_crew.specs.Working.{lists_by, IsHome, IsKeptUp, HasCount};
 
 use crate::finding::Finder;
@@ -42,6 +42,7 @@ pub fn run_alone<R: Wait, K: Sink, N: Sink, G: Gate, L: Ledger, B: Ledger>(
     requires room { length parcel.snap.bodies ≡ length shapes.now.clumps }
     ensures ran { IfOk result (HasRun shapes.now grid.now.drift (K.held out.old) (K.held out.new) (N.held note.old) (N.held note.new)) }
     ensures so_far { OnErr result (AppendsPrefix (K.held out.old) (K.held out.new) (output_of shapes.now)) }
+    ensures noted { OnErr result (HasNoted shapes.now grid.now.drift (N.held note.old) (N.held note.new)) }
     ensures faults { HasFaults (K.faults out.old) (K.faults out.new) (N.faults note.old) (N.faults note.new) result }
     ensures counted { IfOk result (λ ran. tests.new ≤ tests.old + ran.tests) }
 {
@@ -71,6 +72,7 @@ impl<'s> Work<'s> {
         ensures ended { IfOk result (λ last. self.new.course.course.last ≡ Some last) }
         ensures kept { OnOk result ((o n : _) → IsKeptUp o (K.held out.old) n (N.held note.old) self.old → IsKeptUp o (K.held out.new) n (N.held note.new) self.new) }
         ensures so_far { OnErr result ((o n : _) → IsKeptUp o (K.held out.old) n (N.held note.old) self.old → AppendsPrefix o (K.held out.new) (output_of self.old.course.scene)) }
+        ensures noted { OnErr result ((o n : _) → IsKeptUp o (K.held out.old) n (N.held note.old) self.old → HasNoted self.old.course.scene self.old.course.drift n (N.held note.new)) }
         ensures faults { HasFaults (K.faults out.old) (K.faults out.new) (N.faults note.old) (N.faults note.new) result }
         ensures counted { tests.new + self.old.course.course.tests ≡ tests.old + self.new.course.course.tests }
     {
@@ -107,6 +109,7 @@ impl<'s> Work<'s> {
         ensures few { OnOk result (self.new.lists ≤ lists_by self.new.course.course.from) }
         ensures home { OnOk result (IsHome self.new) }
         ensures kept { OnOk result ((o out n : _) → IsKeptUp o out n (N.held note.old) self.old → IsKeptUp o out n (N.held note.new) self.new) }
+        ensures noted { OnErr result ((o out n : _) → IsKeptUp o out n (N.held note.old) self.old → HasNoted self.old.course.scene self.old.course.drift n (N.held note.new)) }
         ensures count { HasCount (N.faults note.old) (N.faults note.new) result }
     {
         let _course = self.course.now();

@@ -8,7 +8,7 @@ ghost use Rattle.dem_model.specs.Exchange.{terms_of};
 ghost use Rattle.dem_model.specs.ExchangeKinds.{first_dynamics, first_kinematics};
 ghost use Rattle.dem_model.specs.Output.{output_of};
 ghost use Rattle.dem_bins.specs.Bins.{IsGridOf};
-ghost use Rattle.dem_crew.specs.Running.{HasRun, HasRunFaults, Started};
+ghost use Rattle.dem_crew.specs.Running.{HasRun, HasNoted, HasRunFaults, Started};
 
 use crate::alone::run_alone;
 use crate::finding::kinematics;
@@ -43,6 +43,7 @@ pub fn run_two<R: Threads + Wait + Sync, K: Sink, N: Sink, G: Gate, L: Ledger>(
     requires grid { IsGridOf shapes.now grid.now }
     ensures ran { IfOk result (HasRun shapes.now grid.now.drift (K.held out.old) (K.held out.new) (N.held note.old) (N.held note.new)) }
     ensures so_far { OnErr result (AppendsPrefix (K.held out.old) (K.held out.new) (output_of shapes.now)) }
+    ensures noted { OnErr result (HasNoted shapes.now grid.now.drift (N.held note.old) (N.held note.new)) }
     ensures faults { HasRunFaults (K.faults out.old) (K.faults out.new) (N.faults note.old) (N.faults note.new) result }
     ensures counted { IfOk result (λ ran. tests.new ≤ tests.old + ran.tests) }
 {

@@ -6,7 +6,7 @@ ghost use Rattle.dem_model.specs.Exchange.{terms_of};
 ghost use Rattle.dem_model.specs.Output.{output_of};
 ghost use Rattle.dem_bins.specs.Bins.{IsGridOf};
 ghost use Rattle.dem_core.specs.Worlds.{HasFaults};
-ghost use Rattle.dem_crew.specs.Running.{HasRun, HasRunFaults};
+ghost use Rattle.dem_crew.specs.Running.{HasRun, HasNoted, HasRunFaults};
 
 use crate::ran::Ran;
 use crate::work::Work;
@@ -46,6 +46,7 @@ pub fn dynamics<R: Wait, K: Sink, N: Sink, G: Gate, L: Ledger>(
     ensures raised { seat.new.view.raised ≡ true }
     ensures ran { IfOk result (HasRun shapes.now grid.now.drift (K.held out.old) (K.held out.new) (N.held note.old) (N.held note.new)) }
     ensures so_far { OnErr result (AppendsPrefix (K.held out.old) (K.held out.new) (output_of shapes.now)) }
+    ensures noted { OnErr result (HasNoted shapes.now grid.now.drift (N.held note.old) (N.held note.new)) }
     ensures faults { HasRunFaults (K.faults out.old) (K.faults out.new) (N.faults note.old) (N.faults note.new) result }
     ensures counted { IfOk result (λ ran. tests.new ≤ tests.old + ran.tests) }
 {
@@ -82,6 +83,7 @@ fn make_run<R: Wait, K: Sink, N: Sink, G: Gate, L: Ledger>(
     ensures seat { seat.new.table ≡ swap.now }
     ensures ran { IfOk result (HasRun shapes.now grid.now.drift (K.held out.old) (K.held out.new) (N.held note.old) (N.held note.new)) }
     ensures so_far { OnErr result (AppendsPrefix (K.held out.old) (K.held out.new) (output_of shapes.now)) }
+    ensures noted { OnErr result (HasNoted shapes.now grid.now.drift (N.held note.old) (N.held note.new)) }
     ensures faults { HasFaults (K.faults out.old) (K.faults out.new) (N.faults note.old) (N.faults note.new) result }
     ensures counted { IfOk result (λ ran. tests.new ≤ tests.old + ran.tests) }
 {

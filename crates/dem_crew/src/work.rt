@@ -9,7 +9,7 @@ ghost use Rattle.dem_swap.specs.Cycle.{cargo_of};
 ghost use Rattle.dem_model.specs.Exchange.{terms_of, IsAnswer};
 ghost use Rattle.dem_core.specs.Courses.{IsOnCourse};
 ghost use Rattle.dem_core.specs.Worlds.{HasFaults, IsOut};
-ghost use Rattle.dem_crew.specs.Running.{HasRun};
+ghost use Rattle.dem_crew.specs.Running.{HasRun, HasNoted};
 ghost use Rattle.dem_crew.specs.Working.{lists_by, IsAtWork, IsKeptUp, HasCount};
 
 use crate::ran::Ran;
@@ -65,6 +65,7 @@ impl<'s> Work<'s> {
         ensures ran { IfOk result (λ ran. (o out n : _) → IsKeptUp o out n (N.held note.old) self.now → HasRun self.now.course.scene self.now.course.drift o out n (N.held note.new) ran) }
         ensures tests { IfOk result (λ ran. ran.tests ≡ self.now.course.course.tests) }
         ensures so_far { (o out n m : _) → IsKeptUp o out n m self.now → AppendsPrefix o out (output_of self.now.course.scene) }
+        ensures noted { OnErr result ((o out n : _) → IsKeptUp o out n (N.held note.old) self.now → HasNoted self.now.course.scene self.now.course.drift n (N.held note.new)) }
         ensures count { Counts (N.faults note.old) (N.faults note.new) result }
     {
         let _course = self.course.now();
@@ -95,6 +96,7 @@ impl<'s> Work<'s> {
         ensures ended { IfOk result (λ last. self.new.course.course.last ≡ Some last) }
         ensures kept { OnOk result ((o n : _) → IsKeptUp o (K.held out.old) n (N.held note.old) self.old → IsKeptUp o (K.held out.new) n (N.held note.new) self.new) }
         ensures so_far { OnErr result ((o n : _) → IsKeptUp o (K.held out.old) n (N.held note.old) self.old → AppendsPrefix o (K.held out.new) (output_of self.old.course.scene)) }
+        ensures noted { OnErr result ((o n : _) → IsKeptUp o (K.held out.old) n (N.held note.old) self.old → HasNoted self.old.course.scene self.old.course.drift n (N.held note.new)) }
         ensures faults { HasFaults (K.faults out.old) (K.faults out.new) (N.faults note.old) (N.faults note.new) result }
         ensures counted { tests.new + self.old.course.course.tests ≡ tests.old + self.new.course.course.tests }
     {
@@ -127,6 +129,7 @@ impl<'s> Work<'s> {
         ensures at_work { OnOk result (IsAtWork swap.now seat.new self.new) }
         ensures kept { OnOk result ((o n : _) → IsKeptUp o (K.held out.old) n (N.held note.old) self.old → IsKeptUp o (K.held out.new) n (N.held note.new) self.new) }
         ensures so_far { OnErr result ((o n : _) → IsKeptUp o (K.held out.old) n (N.held note.old) self.old → AppendsPrefix o (K.held out.new) (output_of self.old.course.scene)) }
+        ensures noted { OnErr result ((o n : _) → IsKeptUp o (K.held out.old) n (N.held note.old) self.old → HasNoted self.old.course.scene self.old.course.drift n (N.held note.new)) }
         ensures faults { HasFaults (K.faults out.old) (K.faults out.new) (N.faults note.old) (N.faults note.new) result }
         ensures counted { tests.new + self.old.course.course.tests ≡ tests.old + self.new.course.course.tests }
     {
@@ -171,6 +174,7 @@ impl<'s> Work<'s> {
         ensures last { self.new.course.course.last ≡ self.old.course.course.last }
         ensures at_work { OnOk result (IsAtWork swap.now seat.new self.new) }
         ensures kept { OnOk result ((o out n : _) → IsKeptUp o out n (N.held note.old) self.old → IsKeptUp o out n (N.held note.new) self.new) }
+        ensures noted { OnErr result ((o out n : _) → IsKeptUp o out n (N.held note.old) self.old → HasNoted self.old.course.scene self.old.course.drift n (N.held note.new)) }
         ensures count { HasCount (N.faults note.old) (N.faults note.new) result }
     {
         if self.home.is_some() {
@@ -199,6 +203,7 @@ impl<'s> Work<'s> {
         ensures last { self.new.course.course.last ≡ self.old.course.course.last }
         ensures few { OnOk result (self.new.lists ≤ lists_by self.new.course.course.from) }
         ensures kept { OnOk result ((o out n : _) → IsKeptUp o out n (N.held note.old) self.old → IsKeptUp o out n (N.held note.new) self.new) }
+        ensures noted { OnErr result ((o out n : _) → IsKeptUp o out n (N.held note.old) self.old → HasNoted self.old.course.scene self.old.course.drift n (N.held note.new)) }
         ensures home { OnOk result ((p : Parcel) × (self.new.home ≡ Some p) × (p.snap ≡ parcel.snap)) }
         ensures count { HasCount (N.faults note.old) (N.faults note.new) result }
     {
@@ -207,10 +212,10 @@ impl<'s> Work<'s> {
             list,
             refused,
         } = parcel;
+        let lists = self.next_list();
         if refused {
             return Err(WorldStop::OutOfMemory);
         }
-        let lists = self.next_list();
         match self.course.collect(list, note) {
             Ok(list) => {
                 self.lists = lists;
@@ -250,6 +255,7 @@ impl<'s> Work<'s> {
         ensures at_work { (table seat : _) → IsAtWork table seat self.old → IsAtWork table seat self.new }
         ensures kept { OnOk result ((o n note : _) → IsKeptUp o (K.held out.old) n note self.old → IsKeptUp o (K.held out.new) n note self.new) }
         ensures so_far { OnErr result ((o n note : _) → IsKeptUp o (K.held out.old) n note self.old → AppendsPrefix o (K.held out.new) (output_of self.old.course.scene)) }
+        ensures noted { OnErr result ((o n note : _) → IsKeptUp o (K.held out.old) n note self.old → HasNoted self.old.course.scene self.old.course.drift n note) }
         ensures count { Counts (K.faults out.old) (K.faults out.new) result }
         ensures counted { tests.new + self.old.course.course.tests ≡ tests.old + self.new.course.course.tests }
     {

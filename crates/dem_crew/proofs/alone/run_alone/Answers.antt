@@ -2,8 +2,10 @@ use Rattle.std.proofs.Common.{◌≡◌, ℕ, ◌∙◌, subst}
 use Rattle.dem_outside.specs.Known.{AppendsPrefix}
 use Rattle.dem_model.specs.Output.{output_of}
 use Rattle.dem_model.specs.SceneValue.{SceneValue}
-use Rattle.dem_crew.specs.Running.{HasRun}
+use Rattle.dem_crew.specs.Running.{HasRun, HasNoted}
 use Rattle.dem_crew.proofs.WorkFacts.{on-err}
+use Rattle.dem_crew.proofs.NotedFacts.{noted-same}
+use Rattle.dem_crew.proofs.GoingOnFacts.{noted-none}
 use Rattle.dem_crew.proofs.alone.run_alone.Goals as goal
 
 pub returns-in_err-last-clause-so_far : goal.returns-in_err-last-clause-so_far
@@ -29,3 +31,21 @@ returns-clause-ran g c =
     let scene : c.finish_alone.new.self.course.scene ≡ c.args.shapes.now = c.in_ok-last.ensures.scene ∙ c.in_ok-work.ensures.scene in
     subst (λ (s : SceneValue). HasRun s c.args.grid.now.drift (g.K.Sink.held c.args.out.now) (g.K.Sink.held c.finish_alone.new.out) (g.N.Sink.held c.args.note.now) (g.N.Sink.held c.close.new.note) c.in_ok-close.field-0) scene
     (subst (λ (d : ℕ). HasRun c.finish_alone.new.self.course.scene d (g.K.Sink.held c.args.out.now) (g.K.Sink.held c.finish_alone.new.out) (g.N.Sink.held c.args.note.now) (g.N.Sink.held c.close.new.note) c.in_ok-close.field-0) drift h)
+
+pub returns-in_err-work-clause-noted : goal.returns-in_err-work-clause-noted
+returns-in_err-work-clause-noted g c = on-err _ (noted-none c.args.shapes.now c.args.grid.now.drift (g.N.Sink.held c.args.note.now))
+
+pub returns-in_err-last-clause-noted : goal.returns-in_err-last-clause-noted
+returns-in_err-last-clause-noted g c =
+    let h : HasNoted c.args.shapes.now c.args.grid.now.drift (g.N.Sink.held c.args.note.now) (g.N.Sink.held c.finish_alone.new.note) =
+    noted-same _ _ _ _ _ _ c.in_ok-work.ensures.scene c.in_ok-work.ensures.drift
+    (c.in_err-last.ensures.noted (g.K.Sink.held c.args.out.now) (g.N.Sink.held c.args.note.now) (c.in_ok-work.ensures.kept (g.N.Sink.held c.args.note.now))) in
+    on-err _ h
+
+pub returns-in_err-close-clause-noted : goal.returns-in_err-close-clause-noted
+returns-in_err-close-clause-noted g c =
+    let kept = c.in_ok-last.ensures.kept (g.K.Sink.held c.args.out.now) (g.N.Sink.held c.args.note.now) (c.in_ok-work.ensures.kept (g.N.Sink.held c.args.note.now)) in
+    let h : HasNoted c.args.shapes.now c.args.grid.now.drift (g.N.Sink.held c.args.note.now) (g.N.Sink.held c.close.new.note) =
+    noted-same _ _ _ _ _ _ (c.in_ok-last.ensures.scene ∙ c.in_ok-work.ensures.scene) (c.in_ok-last.ensures.drift ∙ c.in_ok-work.ensures.drift)
+    (c.in_err-close.ensures.noted (g.K.Sink.held c.args.out.now) (g.K.Sink.held c.finish_alone.new.out) (g.N.Sink.held c.args.note.now) kept) in
+    on-err _ h

@@ -5,6 +5,8 @@ use Rattle.dem_model.specs.World.{may_step}
 use Rattle.dem_core.specs.Courses.{Running}
 use Rattle.dem_crew.specs.Working.{IsKeptUp}
 use Rattle.dem_crew.proofs.WorkFacts.{on-err, few-stepped, run-tests, at_work-stepped, kept-stepped, prefix-stepped}
+use Rattle.dem_crew.proofs.NotedFacts.{noted-kept}
+use Rattle.dem_crew.specs.Running.{HasNoted}
 use Rattle.dem_crew.proofs.work.Work.step.Goals as goal
 
 pub returns-in_err-step-clause-few : goal.returns-in_err-step-clause-few
@@ -38,3 +40,9 @@ returns-clause-kept g c =
 
 pub returns-clause-counted : goal.returns-clause-counted
 returns-clause-counted g c = omega (arith, run-tests _ _ c.args.self.now.course.course c.step.new.self c.step.ensures.stepped, c.step.ensures.counted)
+
+pub returns-in_err-step-clause-noted : goal.returns-in_err-step-clause-noted
+returns-in_err-step-clause-noted g c =
+    let f : (o n note : Option (List ℕ)) → IsKeptUp o (g.K.Sink.held c.args.out.now) n note c.args.self.now → HasNoted c.args.self.now.course.scene c.args.self.now.course.drift n note =
+    λ o n note k. noted-kept o _ n note c.args.self.now c.now.ensures.course k in
+    on-err _ f

@@ -29,7 +29,8 @@ use std::thread::Threads;
 
 /// Makes the run of a scene: kinematics finds pairs in a thread of its own while dynamics steps in this one. Where no thread can be
 /// started, this one makes all turns, with the same promise. Writes the output to `out`, and to `note` a row for each list that
-/// was taken into use and one for the tests. `tests` counts the pairs that the steps test.
+/// was taken into use and one for the tests. `tests` counts the pairs that the steps test. Where a put fails or memory is refused,
+/// `out` and `note` have prefixes of such.
 pub fn run_two<R: Threads + Wait + Sync, K: Sink, N: Sink, G: Gate, L: Ledger>(
     rt: &R,
     alloc: Global,

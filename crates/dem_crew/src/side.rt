@@ -23,7 +23,8 @@ use std::sync::ledger::Ledger;
 
 /// Makes the run: posts its states, takes the lists that come back into use, and steps as long as the list in use isn't too old.
 /// Writes the output to `out`, and to `note` a row for each list and one for the tests. Raises the stop before it leaves, however
-/// that is. `tests` counts the pairs that the steps test.
+/// that is. `tests` counts the pairs that the steps test. Where a put fails or memory is refused, `out` and `note` have prefixes of
+/// such.
 pub fn dynamics<R: Wait, K: Sink, N: Sink, G: Gate, L: Ledger>(
     rt: &R,
     alloc: Global,

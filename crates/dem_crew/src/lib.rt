@@ -13,6 +13,8 @@ mod finding;
 mod ran;
 mod rest;
 mod side;
+#[cfg(test)]
+mod tests;
 mod work;
 
 pub use crew::run_two;

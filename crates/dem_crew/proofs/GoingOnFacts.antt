@@ -41,8 +41,8 @@ all-taken s drift rows c last on is taken = record {
 }
 
 unless-ended : (s : SceneValue) (drift : ℕ) (rows : List TakenRow) (c : Course) (o : Option Last) → c.last ≡ o → IsOnCourse s drift c → HasTaken s drift rows c → (c.last ≡ None → GoOn s drift rows) → GoOn s drift rows
-unless-ended s drift rows c None is on taken open = open is
-unless-ended s drift rows c (Some last) is on taken open = all-taken s drift rows c last on is taken
+unless-ended s drift rows c None is on taken going = going is
+unless-ended s drift rows c (Some last) is on taken going = all-taken s drift rows c last on is taken
 
 one-less : (s : SceneValue) (drift : ℕ) (rows : List TakenRow) (r : TakenRow) → GoOn s drift (rows ++ r ∷ []) → GoOn s drift rows
 one-less s drift rows r h = record { more = r ∷ h.more; legal = subst (IsLegal s drift (last_of s)) (append_assoc rows (r ∷ []) h.more) h.legal }

@@ -63,7 +63,7 @@ unfolding stepped
 reached s c = reaches s c (step_of s c.state) refl
 
 -- what holds of each run with so many steps left
-GoesOnIn : ℕ → SceneValue → ℕ → Type 0
+abbrev GoesOnIn : ℕ → SceneValue → ℕ → Type 0
 GoesOnIn n s drift = (rows : List TakenRow) (c : Course) → IsOnCourse s drift c → HasTaken s drift rows c → s.steps ≤ c.state.step + n → GoOn s drift rows
 
 by-step : (n : ℕ) (s : SceneValue) (drift : ℕ) → GoesOnIn n s drift → (rows : List TakenRow) (c : Course) → IsOnCourse s drift c → may_step s drift c ≡ true → HasTaken s drift rows c → s.steps ≤ c.state.step + suc n → GoOn s drift rows

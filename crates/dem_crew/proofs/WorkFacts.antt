@@ -49,6 +49,11 @@ pub on-err : {A E P : Type 0} (r : Result A E) → P → OnErr r P
 on-err (Ok x) p = tt
 on-err (Err e) p = p
 
+-- what holds on a fault leads to what follows from it
+pub on-err-then : {A E P Q : Type 0} (r : Result A E) → (P → Q) → OnErr r P → OnErr r Q
+on-err-then (Ok x) f p = tt
+on-err-then (Err e) f p = f p
+
 -- what was written follows where the run and its lists stay
 pub kept-same : (o a n m : Option (List ℕ)) (old new : Work) → new.course ≡ old.course → new.lists ≡ old.lists → IsKeptUp o a n m old → IsKeptUp o a n m new
 kept-same o a n m old new course lists k = record {

@@ -1,13 +1,15 @@
 -- A place in the largest box comes back from its stored form.
-use Rattle.std.proofs.Common.{◌≡◌, ℕ, ℤ, pos, negsuc, ◌+◌, ◌*◌, ◌/◌, ◌%◌, ◌<◌, ◌≤◌, Bool, true, false, ◌&&◌, ap, ◌∙◌, arith, refl, to_z, of_z, w64}
+use Rattle.std.proofs.Common.{◌≡◌, ℕ, ℤ, pos, negsuc, ◌+◌, ◌*◌, ◌/◌, ◌%◌, ◌^◌, ◌<◌, ◌≤◌, Bool, true, false, ◌&&◌, ap, ◌∙◌, arith, refl, to_z, of_z, w64}
 use Rattle.std.specs.Prelude.{not, int_lt}
 use Rattle.std.proofs.lemmas.Bool.{and_parts, ltb-true, lt-ltb}
 use Rattle.std.proofs.lemmas.Int.{to_z-of_z}
 use Rattle.std.proofs.lemmas.Nat.{div-add-mod'}
+use Rattle.dem_num.specs.Numbers.{AtMost}
 use Rattle.dem_num.specs.declared.vector.Wide3.{Wide3}
 use Rattle.dem_model.specs.Position.{in_voxels, voxel_of, voxel_offset_of}
 use Rattle.dem_model.specs.declared.limits.TheConstants.{MAX_VOXELS, VOXEL}
 use Rattle.dem_voxel.specs.Voxel.{packed, unpacked, component_at, is_packable, in_box_of, voxel_id}
+use Rattle.dem_voxel.specs.declared.position.VoxelPos.{VoxelPos}
 use Rattle.dem_voxel.specs.declared.position.TheConstants.{ROW, LAYER}
 
 -- each component lies in a box
@@ -105,3 +107,36 @@ pub packed_from : (p : Wide3) (a b c ox oy oz : ℕ) → a ≡ voxel_of p.x → 
     packed p ≡ record { id = a + b * ROW + c * LAYER; ox = ox; oy = oy; oz = oz }
 unfolding packed voxel_id
 packed_from p a b c ox oy oz x y z u v w = rw (x, y, z, u, v, w) refl
+
+-- the voxel of a component and its offset there
+voxel_back : (n o : ℕ) → o < VOXEL → voxel_of (component_at n o) ≡ n
+unfolding voxel_of component_at
+voxel_back n o lt = omega arith
+
+offset_back : (n o : ℕ) → o < VOXEL → voxel_offset_of (component_at n o) ≡ o
+unfolding voxel_offset_of component_at
+offset_back n o lt = omega arith
+
+-- a voxel's number comes back from its numbers along the axes
+id_back : (id : ℕ) → voxel_id (id % ROW) (id / ROW % ROW) (id / LAYER) ≡ id
+unfolding voxel_id
+id_back id = omega arith
+
+-- a stored form comes back from its place
+pub packed_unpacked : (v : VoxelPos) → v.ox < VOXEL → v.oy < VOXEL → v.oz < VOXEL → packed (unpacked v) ≡ v
+unfolding packed
+packed_unpacked v x y z =
+    let number : voxel_id (voxel_of (component_at (v.id % ROW) v.ox)) (voxel_of (component_at (v.id / ROW % ROW) v.oy)) (voxel_of (component_at (v.id / LAYER) v.oz)) ≡ v.id =
+    rw (voxel_back (v.id % ROW) v.ox x, voxel_back (v.id / ROW % ROW) v.oy y, voxel_back (v.id / LAYER) v.oz z) (id_back v.id) in
+    rw (number, offset_back (v.id % ROW) v.ox x, offset_back (v.id / ROW % ROW) v.oy y, offset_back (v.id / LAYER) v.oz z) refl
+
+-- a small component keeps its value in 64 bits
+keeps : (x : ℤ) → AtMost x (2 ^ 40) → to_z w64 (of_z w64 x) ≡ x
+keeps (pos m) h = let small : m ≤ 2 ^ 40 = h in to_z-of_z w64 (pos m) (omega arith)
+keeps (negsuc m) h = let small : m + 1 ≤ 2 ^ 40 = omega (arith, h) in to_z-of_z w64 (negsuc m) (omega arith)
+
+-- a place from its components, each kept in 64 bits
+pub unpacked_from : (v : VoxelPos) (x y z : ℤ) → x ≡ component_at (v.id % ROW) v.ox → y ≡ component_at (v.id / ROW % ROW) v.oy → z ≡ component_at (v.id / LAYER) v.oz →
+    AtMost x (2 ^ 40) → AtMost y (2 ^ 40) → AtMost z (2 ^ 40) →
+    unpacked v ≡ record { x = to_z w64 (of_z w64 x); y = to_z w64 (of_z w64 y); z = to_z w64 (of_z w64 z) }
+unpacked_from v x y z f g h k l m = rw (keeps x k, keeps y l, keeps z m, f, g, h) refl

@@ -4,7 +4,7 @@ ghost use Rattle.std.specs.Prelude.{◌≡◌, ◌<◌, ◌^◌, true};
 ghost use Rattle.dem_num.specs.Numbers.{AtMost};
 ghost use Rattle.dem_num.specs.Vectors.{widened, Within};
 ghost use Rattle.dem_model.specs.Position.{in_voxels, voxel_of, voxel_offset_of};
-ghost use Rattle.dem_model.specs.declared.limits.TheConstants.{MAX_VOXELS};
+ghost use Rattle.dem_model.specs.declared.limits.TheConstants.{MAX_VOXELS, VOXEL};
 ghost use Rattle.dem_voxel.specs.Voxel.{packed, unpacked, component_at, is_packable};
 
 use dem_model::VOXEL;
@@ -43,6 +43,7 @@ pub fn pack(p: Vec3) -> VoxelPos
 pub fn unpack(v: VoxelPos) -> Vec3
     ensures value { widened result ≡ unpacked v }
     ensures size { Within (widened result) (2 ^ 40) }
+    ensures back { packed (widened result) ≡ v }
 {
     Vec3 {
         x: component(v.id % ROW, v.ox),
@@ -76,6 +77,7 @@ fn component(voxel: u64, offset: u16) -> i64
     requires { voxel < 2 ^ 24 }
     ensures value { result ≡ component_at voxel offset }
     ensures size { AtMost result (2 ^ 40) }
+    ensures within { offset < VOXEL }
 {
     (voxel * VOXEL + offset as u64) as i64
 }

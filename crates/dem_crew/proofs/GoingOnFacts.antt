@@ -1,17 +1,15 @@
 -- The rows of a run so far go on to rows that a whole run may have, and so what was noted of them is a prefix.
 use Rattle.std.proofs.Common.{◌≡◌, ℕ, zero, suc, ◌+◌, ◌<◌, ◌≤◌, ◌⊎◌, inl, inr, true, false, List, [], ◌∷◌, ◌++◌, Option, None, Some, Result, Ok, Err, IsSomeAnd, refl, sym, ap, ◌∙◌, subst, append_assoc, append-nil, flat_map, arith, true≢false}
-use Rattle.std.specs.Io.KnownBytes.{Appends}
-use Rattle.std.proofs.KnownBytes.{Appends-nil}
 use Rattle.std.proofs.lemmas.Bool.{cases_lt, cases_Bool, lt-ltb}
 use Rattle.std.proofs.lemmas.Grind.{flat_map-append}
 use Rattle.dem_outside.specs.Known.{AppendsPrefix}
-use Rattle.dem_outside.proofs.Prefixes.{AppendsPrefix-nil, AppendsPrefix-whole, AppendsPrefix-longer, AppendsPrefix-after}
+use Rattle.dem_outside.proofs.Prefixes.{AppendsPrefix-nil, AppendsPrefix-longer}
 use Rattle.dem_model.specs.SceneValue.{SceneValue}
 use Rattle.dem_model.specs.Frames.{taken_text, tests_text}
 use Rattle.dem_model.specs.Plain.{last_of}
 use Rattle.dem_model.specs.Step.{step_of}
 use Rattle.dem_model.specs.TakenRows.{IsLegal, tests_of}
-use Rattle.dem_model.specs.World.{Snap, Course, is_open, is_past, may_post, may_step, first_course, after_step, stepped, with_list, row_with, rows_text, snap_of, list_of}
+use Rattle.dem_model.specs.World.{Snap, Course, is_past, may_post, may_step, first_course, after_step, stepped, with_list, row_with, rows_text, snap_of, list_of}
 use Rattle.dem_model.specs.declared.state.End.{End}
 use Rattle.dem_model.specs.declared.state.Last.{Last}
 use Rattle.dem_model.specs.declared.state.Last.TheVariants.{Passed}
@@ -22,7 +20,7 @@ use Rattle.dem_output.proofs.RunLaw.{step_of-step}
 use Rattle.dem_core.specs.Courses.{IsOnCourse, HasEnd, MayCollect}
 use Rattle.dem_core.specs.SoFar.{HasTaken}
 use Rattle.dem_core.specs.Worlds.{IsOut}
-use Rattle.dem_core.proofs.CourseFacts.{GoesOn, goes_on-may, none-open, IsOnCourse-first, IsOnCourse-stepped, IsOnCourse-with_list}
+use Rattle.dem_core.proofs.CourseFacts.{goes_on-may, none-open, IsOnCourse-first, IsOnCourse-stepped, IsOnCourse-with_list}
 use Rattle.dem_core.proofs.SoFarFacts.{text-ended}
 use Rattle.dem_core.proofs.TakenFacts.{HasTaken-first, HasTaken-stepped, HasTaken-with_list, HasTaken-ended}
 use Rattle.dem_core.proofs.WorldFacts.{IsOut-posted, IsOut-collect, IsOut-near}

@@ -1,10 +1,9 @@
-use Rattle.std.proofs.Common.{◌≡◌, ◌+◌, ◌≤◌, sym, subst, arith, ℕ, List, Option}
+use Rattle.std.proofs.Common.{◌≡◌, ◌+◌, ◌≤◌, sym, subst, arith}
 use Rattle.dem_model.specs.World.{with_list}
 use Rattle.dem_core.specs.Courses.{Running}
-use Rattle.dem_crew.specs.Working.{lists_by, IsKeptUp}
+use Rattle.dem_crew.specs.Working.{lists_by}
 use Rattle.dem_crew.proofs.WorkFacts.{may-collect, list-of, not-refused, few-more, kept-with_list}
 use Rattle.dem_crew.proofs.NotedFacts.{noted-kept, noted-refused}
-use Rattle.dem_crew.specs.Running.{HasNoted}
 use Rattle.dem_crew.proofs.work.Work.take_up.Goals as goal
 
 pub collect-requires-clause-may : goal.collect-requires-clause-may

@@ -8,6 +8,7 @@ use Rattle.dem_model.specs.declared.limits.TheConstants.{MAX_TEXT}
 use Rattle.dem_outside.specs.Change.{Change, IsKept, LosesAtMost}
 use Rattle.dem_top.specs.declared.comparison.TheConstants.{MAX_INPUT}
 use Rattle.dem_top.specs.Compared.{check_verdict}
+use Rattle.dem_top.specs.Summaries.{gen_verdict}
 use Rattle.dem_top.specs.Verdicts.{Verdict, Refused, usage_text, plain_verdict, sched_verdict}
 
 -- what is asked for
@@ -29,6 +30,10 @@ sched_job o = record { limit = Some MAX_TEXT; verdict = sched_verdict o }
 abbrev pub check_job : Job
 check_job = record { limit = Some MAX_INPUT; verdict = check_verdict }
 
+-- a summary of the run of a made scene: nothing is read
+abbrev pub gen_job : OrderValue → Job
+gen_job o = record { limit = None; verdict = λ _. gen_verdict o }
+
 -- a faulty command line: nothing is read
 abbrev pub usage_job : Job
 usage_job = record { limit = None; verdict = λ _. Refused 1 usage_text }
@@ -39,7 +44,7 @@ job_in modes.Plain o = plain_job
 job_in modes.Sched o = sched_job o
 job_in modes.Run o = usage_job
 job_in modes.Check o = check_job
-job_in modes.Gen o = usage_job
+job_in modes.Gen o = gen_job o
 job_in modes.Resume o = usage_job
 job_in modes.Look o = usage_job
 job_in modes.Pack o = usage_job

@@ -8,6 +8,8 @@
 
 mod comparison;
 mod difference;
+mod made;
+mod made_rows;
 mod outcome;
 mod plain;
 mod reading;
@@ -15,6 +17,7 @@ mod refusal;
 mod sched;
 mod status;
 mod streams;
+mod summary;
 mod top;
 mod turns;
 

@@ -6,6 +6,7 @@ ghost use Rattle.dem_top.specs.Parts.{Does};
 ghost use Rattle.dem_top.specs.Answers.{Answers};
 
 use crate::comparison::compare;
+use crate::made::summarize;
 use crate::outcome::{NotDone, Outcome, tell};
 use crate::plain::plain;
 use crate::refusal::{Refusal, refuse};
@@ -82,7 +83,8 @@ fn carry_out<S: Source, K: Sink, N: Sink>(
         Mode::Plain => plain(alloc, source, out),
         Mode::Sched => sched(alloc, order, source, out, note),
         Mode::Check => compare(alloc, source, out),
-        Mode::Run | Mode::Gen | Mode::Resume | Mode::Look | Mode::Pack => {
+        Mode::Gen => summarize(alloc, order, out),
+        Mode::Run | Mode::Resume | Mode::Look | Mode::Pack => {
             Err(NotDone::Refused(Refusal::Usage))
         }
     }

@@ -105,7 +105,7 @@ fn refuses_a_wrong_value(rt: HostRuntime) -> Result<(), Fail> {
         ["dem", "sched", "--drift="].as_slice(),
         ["dem", "sched", "--bin", "274877906945"].as_slice(),
         ["dem", "sched", "--turns", "px"].as_slice(),
-        ["dem", "gen"].as_slice(),
+        ["dem", "resume"].as_slice(),
         ["dem", "sched", "--seed", "18446744073709551616"].as_slice(),
         ["dem", "sched", "--count", "0"].as_slice(),
         ["dem", "sched", "--count", "16385"].as_slice(),

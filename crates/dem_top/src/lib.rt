@@ -25,3 +25,5 @@ pub use top::{main_call, quiet_call};
 
 #[cfg(test)]
 mod tests;
+#[cfg(test)]
+mod thread_tests;

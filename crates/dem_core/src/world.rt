@@ -5,6 +5,7 @@ ghost use Rattle.dem_model.specs.World.{enabled, next_turn as next_turn_of, turn
 ghost use Rattle.dem_core.specs.Courses.{IsOnCourse, HoldsRight};
 ghost use Rattle.dem_model.specs.declared.state.Turn.TheVariants.{Post, Take, Deliver, Collect, Step};
 ghost use Rattle.dem_bins.specs.Bins.{IsGridOf};
+ghost use Rattle.dem_step.specs.Stepper.{IsSnapshotOfRun};
 ghost use Rattle.dem_core.specs.Worlds.{HasParcel, Turns, NoPut, Gains, HasCount, HasFaults, BeginsWorld, HasEnded, GoesOn, most_of_turn};
 
 use crate::course::Course;
@@ -15,7 +16,7 @@ use dem_frame::WriteFault;
 use dem_list::PairList;
 use dem_model::{Body, Last, OutOfMemory, Steps, Turn};
 use dem_outside::Sink;
-use dem_shape::Shapes;
+use dem_shape::{Shapes, Snapshot};
 use std::alloc::Global;
 use std::marker::Model;
 use std::sync::ledger::Ledger;
@@ -149,6 +150,16 @@ impl<'s> World<'s> {
         ensures { slice_get self.now.world.course.state.bodies clump ≡ Some result }
     {
         self.course.body(clump)
+    }
+
+    /// Copies the number and the bodies of the state that the world has reached into a snapshot with a body for each clump; they
+    /// are sound for the scene.
+    pub fn snapshot_into(&self, snap: &mut Snapshot)
+        requires { length snap.old.bodies ≡ length self.now.scene.clumps }
+        ensures value { snap.new ≡ record { step = self.now.world.course.state.step; bodies = self.now.world.course.state.bodies } }
+        ensures of_run { IsSnapshotOfRun self.now.scene snap.new }
+    {
+        self.course.post_into(snap);
     }
 
     // Whether the world may take this turn.

@@ -134,12 +134,13 @@ pub record IsAlone (turn : ℕ) (slot : Slot) (d : DynamicsView) : Type 0 where
   pub none_collected : d.collected ≡ 0
   pub slot_is : slot ≡ slot_alone d.terms
 
--- the two sides: the same terms, sound snapshots in the slot and in the copy, and the parcel by the turn word
+-- the two sides: the same terms, sound snapshots in the slot and in the copy, no copy before the first take, and the parcel by the turn word
 pub record IsPaired (turn stop : ℕ) (slot : Slot) (d : DynamicsView) (k : KinematicsView) : Type 0 where
   pub alone : d.alone ≡ false
   pub terms_are : k.terms ≡ d.terms
   pub slot_sound : IsSoundSlot d.terms slot
   pub copy_sound : IfSome k.copy (IsSoundFor d.terms)
+  pub no_copy : k.taken ≡ 0 → k.copy ≡ None
   pub saw_stop : HasSeen k.looks stop
   pub turns : Turns turn slot d k
 

@@ -3,21 +3,22 @@
 ghost use Rattle.std.specs.Prelude.{◌≡◌, ◌<◌, ◌≤◌, ◌^◌, IfSome, All};
 ghost use Rattle.std.specs.Option.{option_map};
 ghost use Rattle.dem_num.specs.Vectors.{widened, Within};
+ghost use Rattle.dem_model.specs.Centers.{touch_of};
 ghost use Rattle.dem_model.specs.Motion.{AreInside, IsPair};
-ghost use Rattle.dem_model.specs.Ranges.{IsSmall};
+ghost use Rattle.dem_model.specs.Ranges.{IsSmall, IsTouch};
 ghost use Rattle.dem_model.specs.Step.{held_at, meeting, same_pair};
 ghost use Rattle.dem_force.specs.Places.{meeting_with};
 ghost use Rattle.dem_force.specs.Sides.{AreSides};
 ghost use Rattle.dem_force.specs.Stored.{AreStored, IsStored};
 
-use dem_force::{Spheres, pushed};
-use dem_model::{Body, Held, Pair, Push, Steps};
+use dem_force::{Spheres, push_at, touch};
+use dem_model::{Body, Held, Pair, Push, Steps, Touch};
 use dem_num::Vec3;
-use dem_shape::Shapes;
+use dem_shape::{Centers, Shapes};
 use std::marker::Brand;
 use std::sync::ledger::{Blank, Ledger};
 
-/// What a pair does where it touches.
+/// What a pair does where it touches. What is held is looked up after the test, since few of all pairs touch.
 pub fn push_of(
     shapes: &Shapes,
     spheres: &Spheres,
@@ -32,31 +33,36 @@ pub fn push_of(
     ensures value { option_map (meeting_with pair) result ≡ meeting shapes.now bodies.now spheres.now.centers pair (held_at held.now pair) }
     ensures small { IfSome result IsSmall }
 {
-    let h = displacement(held, pair);
-    counted::<Brand>(shapes, spheres, bodies, pair, h, Blank::new(1))
+    match uncounted::<Brand>(shapes, &spheres.centers, pair, Blank::new(1)) {
+        Some(touch) => Some(push_at(
+            shapes,
+            spheres,
+            bodies,
+            pair,
+            touch,
+            displacement(held, pair),
+        )),
+        None => None,
+    }
 }
 
-/// What a pair does where it touches; the test is counted on a counter that nobody reads.
-fn counted<L: Ledger>(
+/// Whether and how a pair touches; the test is counted on a counter that nobody reads.
+fn uncounted<L: Ledger>(
     shapes: &Shapes,
-    spheres: &Spheres,
-    bodies: &[Body],
+    centers: &Centers,
     pair: Pair,
-    held: Option<Vec3>,
     blank: Blank,
-) -> Option<Push>
+) -> Option<Touch>
     requires name { blank.name ≡ L.name }
     requires parts { blank.parts ≡ L.parts }
     requires some { 0 < L.parts }
     requires pair { IsPair shapes.now pair }
-    requires centers { AreInside shapes.now spheres.now.centers }
-    requires sides { AreSides shapes.now bodies.now spheres.now.sides }
-    requires held { IsStored held }
-    ensures value { option_map (meeting_with pair) result ≡ meeting shapes.now bodies.now spheres.now.centers pair held }
-    ensures small { IfSome result IsSmall }
+    requires centers { AreInside shapes.now centers.now }
+    ensures value { result ≡ touch_of shapes.now centers.now pair }
+    ensures ranges { IfSome result IsTouch }
 {
     let mut tests = Steps::<L>::new(blank);
-    pushed(shapes, spheres, bodies, pair, held, &mut tests)
+    touch(shapes, centers, pair, &mut tests)
 }
 
 /// The displacement that is held for a pair, where there is one.

@@ -2,3 +2,4 @@ pub mod FillFacts
 pub mod PoseFacts
 pub mod TableFacts
 pub mod StepFacts
+pub mod PutFacts

@@ -1,15 +1,19 @@
 //! The centers of all spheres in a state.
 
-ghost use Rattle.std.specs.Prelude.{◌≡◌, ◌<◌, length, IfOk};
+ghost use Rattle.std.specs.Prelude.{ℕ, ◌≡◌, ◌≢◌, ◌<◌, length, IfOk};
+ghost use Rattle.dem_num.specs.Vectors.{narrowed};
 ghost use Rattle.dem_model.specs.Centers.{centers_of, center_at};
 ghost use Rattle.dem_model.specs.Motion.{AreSound};
-ghost use Rattle.dem_model.specs.Pairs.{sphere_count};
+ghost use Rattle.dem_model.specs.Pairs.{sphere_count, sphere_at};
+ghost use Rattle.dem_model.specs.Sound.{IsBodyOf};
+ghost use Rattle.dem_model.specs.Spheres.{center_of};
+ghost use Rattle.dem_model.specs.Step.{clump_at};
 
-use crate::pose::{Pose, own_place};
+use crate::pose::{Pose, own_place, sphere_center};
 use crate::shapes::Shapes;
 use dem_model::{Body, OutOfMemory};
 use dem_num::{Vec3, ZERO};
-use dem_turn::is_zero;
+use dem_turn::{is_zero, matrix};
 use std::alloc::Global;
 use std::marker::Model;
 
@@ -56,6 +60,26 @@ impl Centers {
             } else {
                 pose = pose.for_sphere(shapes, bodies, s);
                 self.items[s as usize] = pose.center(shapes, bodies, s);
+            }
+        }
+    }
+
+    /// Sets the centers of one clump's spheres to where this body puts them; all others stay. It goes through the table of
+    /// spheres once.
+    pub fn put(&mut self, shapes: &Shapes, clump: u32, body: &Body)
+        requires made { length self.old ≡ sphere_count shapes.now }
+        requires there { clump < length shapes.now.clumps }
+        requires sound { IsBodyOf shapes.now (clump_at shapes.now clump) body.now }
+        ensures count { length self.new ≡ length self.old }
+        ensures own { (i : ℕ) → i < sphere_count shapes.now → (sphere_at shapes.now i).clump ≡ clump
+            → center_at self.new i ≡ narrowed (center_of body.now (sphere_at shapes.now i).ball) }
+        ensures others { (i : ℕ) → i < sphere_count shapes.now → (sphere_at shapes.now i).clump ≢ clump → center_at self.new i ≡ center_at self.old i }
+    {
+        let _scene = shapes.scene();
+        let rows = matrix(body.q);
+        for s in 0..shapes.spheres() {
+            if shapes.clump_of(s) == clump {
+                self.items[s as usize] = sphere_center(body.p, &rows, shapes.ball_of(s).at);
             }
         }
     }

@@ -1,10 +1,11 @@
 //! One pair of a step: whether it touches, and what it does then.
 
-ghost use Rattle.std.specs.Prelude.{◌≡◌, ◌+◌, ◌^◌, ◌<◌, ◌≤◌, IfSome};
+ghost use Rattle.std.specs.Prelude.{◌≡◌, ◌+◌, ◌^◌, ◌<◌, ◌≤◌, IfSome, Some};
 ghost use Rattle.std.specs.Option.{option_map, unwrap_or};
 ghost use Rattle.dem_num.specs.Vectors.{widened, narrowed, no_vector, Within};
+ghost use Rattle.dem_model.specs.Centers.{touch_of};
 ghost use Rattle.dem_model.specs.Motion.{AreInside, IsPair};
-ghost use Rattle.dem_model.specs.Ranges.{IsSmall};
+ghost use Rattle.dem_model.specs.Ranges.{IsSmall, IsTouch};
 ghost use Rattle.dem_model.specs.Step.{meeting};
 ghost use Rattle.dem_model.specs.declared.limits.TheConstants.{MAX_DISPLACEMENT};
 ghost use Rattle.dem_force.specs.Places.{meeting_with};
@@ -14,7 +15,7 @@ ghost use Rattle.dem_force.specs.Stored.{IsStored};
 use crate::pushing::side_list::push_from;
 use crate::pushing::spheres::Spheres;
 use crate::touching::pairs::touch;
-use dem_model::{Body, Pair, Push, Steps};
+use dem_model::{Body, Pair, Push, Steps, Touch};
 use dem_num::{Vec3, ZERO};
 use dem_shape::Shapes;
 use std::sync::ledger::Ledger;
@@ -37,9 +38,29 @@ pub fn pushed<L: Ledger>(
     ensures counted { tests.new ≡ tests.old + 1 }
 {
     match touch(shapes, &spheres.centers, pair, tests) {
-        Some(touch) => Some(push_from(shapes, bodies, &spheres.sides, pair, touch, or_none(held))),
+        Some(touch) => Some(push_at(shapes, spheres, bodies, pair, touch, held)),
         None => None,
     }
+}
+
+/// What a pair does that touches so, from what is held of it.
+pub fn push_at(
+    shapes: &Shapes,
+    spheres: &Spheres,
+    bodies: &[Body],
+    pair: Pair,
+    touch: Touch,
+    held: Option<Vec3>,
+) -> Push
+    requires pair { IsPair shapes.now pair }
+    requires sides { AreSides shapes.now bodies.now spheres.now.sides }
+    requires touches { touch_of shapes.now spheres.now.centers pair ≡ Some touch }
+    requires ranges { IsTouch touch }
+    requires held { IsStored held }
+    ensures value { Some (meeting_with pair result) ≡ meeting shapes.now bodies.now spheres.now.centers pair held }
+    ensures small { IsSmall result }
+{
+    push_from(shapes, bodies, &spheres.sides, pair, touch, or_none(held))
 }
 
 /// A displacement, or none.

@@ -70,6 +70,7 @@ mode_from text =
 unfoldable pub is_built : Mode → Bool
 is_built modes.Plain = true
 is_built modes.Sched = true
+is_built modes.Run = true
 is_built modes.Check = true
 is_built modes.Gen = true
 is_built mode = false

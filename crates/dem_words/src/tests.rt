@@ -98,7 +98,7 @@ fn refuses_a_wrong_value(rt: HostRuntime) -> Result<(), Fail> {
     for words in [
         ["dem", "fly"].as_slice(),
         ["dem", "Plain"].as_slice(),
-        ["dem", "run"].as_slice(),
+        ["dem", "look"].as_slice(),
         ["dem", "pack"].as_slice(),
         ["dem", "sched", "--drift", "1025"].as_slice(),
         ["dem", "sched", "--drift", "+7"].as_slice(),

@@ -62,10 +62,10 @@ sum_moves p d o n m k h l =
     rw e (sum_le d (n -ℤ o) m k h l)
 
 -- what two limits that weren't passed say, and which body there is then
-record IsKept (fast swung : Bool) (made new : Body) : Type 0 where
-  fast_not : fast ≡ false
-  swung_not : swung ≡ false
-  same : new ≡ made
+pub record IsKept (fast swung : Bool) (made new : Body) : Type 0 where
+  pub fast_not : fast ≡ false
+  pub swung_not : swung ≡ false
+  pub same : new ≡ made
 
 -- no limit is passed where there is a body
 limits_kept : (fast spun out swung : Bool) (made : Body) →
@@ -77,7 +77,7 @@ limits_kept false false false true made = tt
 limits_kept false false false false made = record { fast_not = refl; swung_not = refl; same = refl }
 
 -- the limits of a clump's step aren't passed where there is a body
-limited_kept : (s : SceneValue) (balls : List Ball) (b b' : Body) (v w : Wide3) → limited s balls b v w ≡ Ok b' →
+pub limited_kept : (s : SceneValue) (balls : List Ball) (b b' : Body) (v w : Wide3) → limited s balls b v w ≡ Ok b' →
     IsKept (is_over s.speed v) (swings s.spin balls b (body_with b v w)) (body_with b v w) b'
 unfolding limited
 limited_kept s balls b b' v w ok =

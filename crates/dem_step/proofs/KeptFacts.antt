@@ -1,10 +1,9 @@
 -- What a run on lists keeps: at its start, after a step, after a list was taken into use.
-use Rattle.std.proofs.Common.{◌≡◌, ℕ, ◌+◌, ◌^◌, ◌<◌, ◌≤◌, List, [], length, get_or, take, refl, sym, ap, ◌∙◌, arith, subst, Bool, true, false, Option, Some, Ok}
+use Rattle.std.proofs.Common.{◌≡◌, ℕ, ◌+◌, ◌<◌, ◌≤◌, List, [], length, get_or, take, refl, sym, ap, ◌∙◌, arith, subst, Bool, true, false, Option, Some, Ok}
 use Rattle.std.specs.Prelude.{All}
 use Rattle.std.proofs.lemmas.List.{length-take-le, length-map}
 use Rattle.std.proofs.lemmas.List.Elements.{All-nil}
 use Rattle.dem_num.specs.declared.vector.Vec3.{Vec3}
-use Rattle.dem_num.specs.Vectors.{widened, Within}
 use Rattle.dem_model.specs.SceneValue.{SceneValue}
 use Rattle.dem_model.specs.Sound.{IsSound}
 use Rattle.dem_model.specs.Carry.{kept_of, carried, Agrees}

@@ -4,3 +4,4 @@ pub mod ListFacts
 pub mod MetFacts
 pub mod StepFacts
 pub mod KeptFacts
+pub mod StoredFacts

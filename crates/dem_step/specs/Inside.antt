@@ -38,10 +38,11 @@ pub record IsStepper (s : SceneValue) (drift step : ℕ) (listed : Bool) (bodies
   pub near : listed ≡ true → IsListOfRun s drift contacts.list
   pub past : listed ≡ true → contacts.list.from ≤ step
 
--- the room that was made for a step: a center and a side per sphere, a load and a body per clump, an entry per pair of the list
-pub record HasRoom (s : SceneValue) (spheres : Spheres) (loads : List Load) (next : List Body) (pairs : List Pair) (fresh : List (Option Vec3)) : Type 0 where
+-- the room that was made for a step: a center and a side per sphere, a load and two bodies per clump, an entry per pair of the list
+pub record HasRoom (s : SceneValue) (unpacked : List Body) (spheres : Spheres) (loads : List Load) (next : List Body) (pairs : List Pair) (fresh : List (Option Vec3)) : Type 0 where
   pub places : HasPlaces s spheres
   pub load_each : length loads ≡ length s.clumps
+  pub unpacked_each : length unpacked ≡ length s.clumps
   pub body_each : length next ≡ length s.clumps
   pub entry_each : length pairs ≤ length fresh
 

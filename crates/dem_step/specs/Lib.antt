@@ -1,3 +1,4 @@
 pub mod Contacts
 pub mod Stepper
 pub mod Inside
+pub mod Stored

@@ -11,5 +11,6 @@
 mod advancing;
 mod meeting;
 mod stepper;
+mod stored;
 
 pub use stepper::Dyn;

@@ -1,12 +1,15 @@
 //! A run that steps on lists of near pairs.
 
 ghost use Rattle.std.specs.Prelude.{◌≡◌, ◌+◌, ◌<◌, ◌≤◌, ◌↔◌, true, length, slice_get, Some, IfOk, IfErr, OnOk, OnErr, IfSome};
+ghost use Rattle.dem_num.specs.Vectors.{widened};
 ghost use Rattle.dem_model.specs.Carry.{Agrees};
+ghost use Rattle.dem_model.specs.Centers.{body_at};
 ghost use Rattle.dem_model.specs.Plain.{plain_at};
 ghost use Rattle.dem_model.specs.Sound.{IsBodyOf};
 ghost use Rattle.dem_model.specs.Step.{clump_at};
 ghost use Rattle.dem_model.specs.declared.limits.TheConstants.{MAX_DRIFT};
 ghost use Rattle.dem_margin.specs.NearList.{IsNearListOf};
+ghost use Rattle.dem_voxel.specs.Voxel.{packed};
 ghost use Rattle.dem_step.specs.Contacts.{AreContacts, held_by, IsHeldIn};
 ghost use Rattle.dem_step.specs.Stepper.{
   IsSnapshotOfRun,
@@ -21,12 +24,14 @@ ghost use Rattle.dem_step.specs.Stepper.{
 
 use crate::advancing::advance_all;
 use crate::meeting::meet_all;
+use crate::stored::StoredBodies;
 use dem_force::{Spheres, no_loads};
 use dem_hist::Contacts;
 use dem_list::PairList;
 use dem_model::{Body, End, List, Load, OutOfMemory, Steps};
 use dem_num::Vec3;
 use dem_shape::{Shapes, Snapshot, first_bodies};
+use dem_voxel::VoxelPos;
 use std::alloc::Global;
 use std::marker::Model;
 use std::sync::ledger::Ledger;
@@ -39,11 +44,12 @@ pub struct Dyn<'s> {
     drift: u32,
     step: u32,
     listed: bool,
-    bodies: List<Body>,
+    bodies: StoredBodies,
     contacts: Contacts,
+    unpacked: List<Body>,
     spheres: Spheres,
     loads: Vec<Load>,
-    next: List<Body>,
+    next: StoredBodies,
     fresh: Vec<Option<Vec3>>,
 }
 
@@ -55,7 +61,7 @@ impl<'s> Model for Dyn<'s> {
 
     ghost view = { λ a. record { scene = a.shapes.now; drift = a.drift; state = state_at a.shapes.now a.step; from = from_of a.listed a.contacts.list.from; contacts = a.contacts } };
 
-    ghost invariant = { λ a. IsStepper a.shapes.now a.drift a.step a.listed a.bodies a.contacts × HasRoom a.shapes.now a.spheres a.loads.items a.next a.contacts.list.pairs a.fresh.items };
+    ghost invariant = { λ a. IsStepper a.shapes.now a.drift a.step a.listed a.bodies a.contacts × HasRoom a.shapes.now a.unpacked a.spheres a.loads.items a.next a.contacts.list.pairs a.fresh.items };
 }
 
 impl<'s> Dyn<'s> {
@@ -70,11 +76,12 @@ impl<'s> Dyn<'s> {
             drift,
             step: 0,
             listed: false,
-            bodies: first_bodies(alloc, scene)?,
+            bodies: StoredBodies::new(alloc, shapes)?,
             contacts: Contacts::new(alloc),
+            unpacked: first_bodies(alloc, scene)?,
             spheres: Spheres::new(alloc, shapes)?,
             loads: no_loads(alloc, shapes)?,
-            next: first_bodies(alloc, scene)?,
+            next: StoredBodies::new(alloc, shapes)?,
             fresh: Vec::new(alloc),
         })
     }
@@ -109,20 +116,22 @@ impl<'s> Dyn<'s> {
         ensures step { StepsOnList self.old self.new result }
         ensures counted { tests.new ≡ tests.old + length self.old.contacts.list.pairs }
     {
-        self.spheres.fill(self.shapes, self.bodies.as_slice());
+        self.bodies.unpack_into(&mut self.unpacked);
+        self.spheres.fill(self.shapes, self.unpacked.as_slice());
         meet_all(
             self.loads.as_mut_slice(),
             self.fresh.as_mut_slice(),
             self.shapes,
             &self.spheres,
-            self.bodies.as_slice(),
+            self.unpacked.as_slice(),
             &self.contacts,
             tests,
         );
         match advance_all(
             &mut self.next,
             self.shapes,
-            self.bodies.as_slice(),
+            &self.bodies,
+            self.unpacked.as_slice(),
             self.loads.as_slice(),
             self.step + 1,
         ) {
@@ -143,9 +152,7 @@ impl<'s> Dyn<'s> {
         ensures of_run { IsSnapshotOfRun self.now.scene snap.new }
     {
         snap.step = self.step;
-        for k in 0..self.bodies.len() {
-            snap.bodies.set(k, *self.bodies.get(k));
-        }
+        self.bodies.unpack_into(&mut snap.bodies);
     }
 
     /// The number of the state that the run has reached; what it tells besides holds of every run.
@@ -216,7 +223,15 @@ impl<'s> Dyn<'s> {
         ensures value { slice_get self.now.state.bodies clump ≡ Some result }
         ensures sound { IsBodyOf self.now.scene (clump_at self.now.scene clump) result }
     {
-        *self.bodies.get(clump as usize)
+        self.bodies.get(clump as usize)
+    }
+
+    /// The stored position of a clump: that of its body.
+    pub fn voxel(&self, clump: u32) -> VoxelPos
+        requires { clump < length self.now.scene.clumps }
+        ensures { result ≡ packed (widened (body_at self.now.state.bodies clump).p) }
+    {
+        self.bodies.voxel(clump as usize)
     }
 
     /// Lends the list in use and what is held of its pairs.

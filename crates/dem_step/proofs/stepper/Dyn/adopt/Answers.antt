@@ -22,6 +22,7 @@ invariant_of-self-in-Ok c =
       record {
         places = c.self.invariant.1.places;
         load_each = c.self.invariant.1.load_each;
+        unpacked_each = c.self.invariant.1.unpacked_each;
         body_each = c.self.invariant.1.body_each;
         entry_each = omega (arith, ap (λ (h : HeldByPlace). length h.list.pairs) c.in-Ok.ensures.carried, c.len.ensures.value, c.make_room.ensures.room);
       },

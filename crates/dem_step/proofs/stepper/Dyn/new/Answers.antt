@@ -12,14 +12,14 @@ use Rattle.dem_step.proofs.stepper.Dyn.new.Goals as goal
 
 pub invariant_of-result : goal.invariant_of-result
 invariant_of-result c = (
-  subst (IsStepper c.args.shapes.now c.args.drift 0 false c.in_ok-first_bodies.field-0) (sym c.new.ensures)
-      (stepper-first c.args.shapes.now c.args.drift c.in_ok-first_bodies.field-0 c.scene-scene.ensures.sound c.requires
-      (c.in_ok-first_bodies.ensures ∙ ap (λ (s : SceneValue). (first_state s).bodies) c.scene-scene.ensures.value)),
+  subst (IsStepper c.args.shapes.now c.args.drift 0 false c.in_ok-new.field-0) (sym c.new-2.ensures)
+      (stepper-first c.args.shapes.now c.args.drift c.in_ok-new.field-0 c.scene-scene.ensures.sound c.requires c.in_ok-new.ensures),
   record {
-    places = c.in_ok-new.ensures;
+    places = c.in_ok-new-2.ensures;
     load_each = ap length c.in_ok-no_loads.ensures ∙ length-replicate (length c.args.shapes.now.clumps) no_load;
-    body_each = first-count c.args.shapes.now c.in_ok-first_bodies-2.field-0 (c.in_ok-first_bodies-2.ensures ∙ ap (λ (s : SceneValue). (first_state s).bodies) c.scene-scene.ensures.value);
-    entry_each = omega (arith, ap (λ (h : HeldByPlace). length h.list.pairs) c.new.ensures);
+    unpacked_each = first-count c.args.shapes.now c.in_ok-first_bodies.field-0 (c.in_ok-first_bodies.ensures ∙ ap (λ (s : SceneValue). (first_state s).bodies) c.scene-scene.ensures.value);
+    body_each = first-count c.args.shapes.now c.in_ok-new-3.field-0 c.in_ok-new-3.ensures;
+    entry_each = omega (arith, ap (λ (h : HeldByPlace). length h.list.pairs) c.new-2.ensures);
   },
 )
 
@@ -29,7 +29,7 @@ returns c = record {
   drift_is = refl;
   state = state_at-is c.args.shapes.now 0 (first_state c.args.shapes.now) (plain_first c.args.shapes.now);
   from = refl;
-  list_from = ap (λ (h : HeldByPlace). h.list.from) c.new.ensures;
-  pairs = ap (λ (h : HeldByPlace). h.list.pairs) c.new.ensures;
-  entries = ap (λ (h : HeldByPlace). h.entries) c.new.ensures;
+  list_from = ap (λ (h : HeldByPlace). h.list.from) c.new-2.ensures;
+  pairs = ap (λ (h : HeldByPlace). h.list.pairs) c.new-2.ensures;
+  entries = ap (λ (h : HeldByPlace). h.entries) c.new-2.ensures;
 }

@@ -11,7 +11,6 @@ use Rattle.dem_model.specs.declared.state.Body.{Body}
 use Rattle.dem_model.specs.declared.state.State.{State}
 use Rattle.dem_model.proofs.SoundFacts.{centers_of-inside}
 use Rattle.dem_force.specs.Loads.{AreLoads}
-use Rattle.dem_list.specs.Ascending.{Pairs}
 use Rattle.dem_hist.specs.Carrying.{HeldByPlace}
 use Rattle.dem_plain.proofs.RunFacts.{length-centers_of}
 use Rattle.dem_step.specs.Contacts.{held_by}
@@ -25,7 +24,7 @@ use Rattle.dem_step.proofs.stepper.Dyn.step.Goals as goal
 
 pub meet_all-requires-clause-centers : goal.meet_all-requires-clause-centers
 meet_all-requires-clause-centers g c =
-    subst (AreInside c.self.inside.shapes.now) (sym (c.fill.ensures.centers ∙ ap (centers_of c.self.inside.shapes.now) c.as_slice.ensures))
+    subst (AreInside c.self.inside.shapes.now) (sym (c.fill.ensures.centers ∙ ap (centers_of c.self.inside.shapes.now) (c.as_slice.ensures ∙ c.unpack_into.ensures)))
     (centers_of-inside c.self.inside.shapes.now c.self.inside.bodies c.self.invariant.0.scene c.self.invariant.0.sound)
 
 pub meet_all-requires-clause-pairs : goal.meet_all-requires-clause-pairs
@@ -55,9 +54,9 @@ pub invariant_of-self-in-Err : goal.invariant_of-self-in-Err
 invariant_of-self-in-Err g c =
     let can : IsUsable c.self.inside.shapes.now c.self.inside.drift c.self.inside.step c.self.inside.contacts.list =
     usable c.self.inside.shapes.now c.self.inside.drift c.self.inside.step c.self.inside.listed c.self.inside.bodies c.self.inside.contacts c.self.invariant.0 (subst (λ (r : Stepper). IsSomeAnd r.from (λ from. r.state.step ≤ from + r.drift)) (sym c.self.view_is) c.requires.listed) in
-    let filled : c.fill.new.self.centers ≡ centers_of c.self.inside.shapes.now c.self.inside.bodies = c.fill.ensures.centers ∙ ap (centers_of c.self.inside.shapes.now) c.as_slice.ensures in
+    let filled : c.fill.new.self.centers ≡ centers_of c.self.inside.shapes.now c.self.inside.bodies = c.fill.ensures.centers ∙ ap (centers_of c.self.inside.shapes.now) (c.as_slice.ensures ∙ c.unpack_into.ensures) in
     let met : HaveMet c.self.inside.shapes.now c.self.inside.bodies c.fill.new.self.centers (held_by c.self.inside.contacts) c.self.inside.contacts.list.pairs c.meet_all.new.loads c.meet_all.new.fresh =
-    subst (λ (bs : List Body). HaveMet c.self.inside.shapes.now bs c.fill.new.self.centers (held_by c.self.inside.contacts) c.self.inside.contacts.list.pairs c.meet_all.new.loads c.meet_all.new.fresh) c.as_slice-2.ensures c.meet_all.ensures.met in
+    subst (λ (bs : List Body). HaveMet c.self.inside.shapes.now bs c.fill.new.self.centers (held_by c.self.inside.contacts) c.self.inside.contacts.list.pairs c.meet_all.new.loads c.meet_all.new.fresh) (c.as_slice-2.ensures ∙ c.unpack_into.ensures) c.meet_all.ensures.met in
     let start = about c.self.inside.shapes.now c.self.inside.drift c.self.inside.step c.self.inside.listed c.self.inside.bodies c.self.inside.contacts c.fill.new.self.centers c.meet_all.new.loads c.meet_all.new.fresh c.self.invariant.0 can filled met in
     let size : length c.meet_all.new.loads ≡ c.self.inside.loads.len = omega (arith, c.meet_all.auto.loads, c.as_mut_slice.ensures.len) in
     let loads : c.as_slice-4.result.now ≡ c.meet_all.new.loads = c.as_slice-4.ensures.value ∙ with_items_is c.self.inside.loads c.meet_all.new.loads size in
@@ -68,6 +67,7 @@ invariant_of-self-in-Err g c =
       record {
         places = record { centers = ap length filled ∙ length-centers_of c.self.inside.shapes.now c.self.inside.bodies; sides = c.fill.ensures.sides.count };
         load_each = ap length (with_items_is c.self.inside.loads c.meet_all.new.loads size) ∙ load_count;
+        unpacked_each = ap length c.unpack_into.ensures ∙ c.self.invariant.0.sound.count;
         body_each = c.advance_all.ensures.room;
         entry_each = subst (λ (es : List (Option Vec3)). length c.self.inside.contacts.list.pairs ≤ length es) (sym (with_items_is c.self.inside.fresh c.meet_all.new.fresh fresh_size)) fresh_count;
       },
@@ -77,15 +77,15 @@ pub returns-in-Err-clause-step : goal.returns-in-Err-clause-step
 returns-in-Err-clause-step g c =
     let can : IsUsable c.self.inside.shapes.now c.self.inside.drift c.self.inside.step c.self.inside.contacts.list =
     usable c.self.inside.shapes.now c.self.inside.drift c.self.inside.step c.self.inside.listed c.self.inside.bodies c.self.inside.contacts c.self.invariant.0 (subst (λ (r : Stepper). IsSomeAnd r.from (λ from. r.state.step ≤ from + r.drift)) (sym c.self.view_is) c.requires.listed) in
-    let filled : c.fill.new.self.centers ≡ centers_of c.self.inside.shapes.now c.self.inside.bodies = c.fill.ensures.centers ∙ ap (centers_of c.self.inside.shapes.now) c.as_slice.ensures in
+    let filled : c.fill.new.self.centers ≡ centers_of c.self.inside.shapes.now c.self.inside.bodies = c.fill.ensures.centers ∙ ap (centers_of c.self.inside.shapes.now) (c.as_slice.ensures ∙ c.unpack_into.ensures) in
     let met : HaveMet c.self.inside.shapes.now c.self.inside.bodies c.fill.new.self.centers (held_by c.self.inside.contacts) c.self.inside.contacts.list.pairs c.meet_all.new.loads c.meet_all.new.fresh =
-    subst (λ (bs : List Body). HaveMet c.self.inside.shapes.now bs c.fill.new.self.centers (held_by c.self.inside.contacts) c.self.inside.contacts.list.pairs c.meet_all.new.loads c.meet_all.new.fresh) c.as_slice-2.ensures c.meet_all.ensures.met in
+    subst (λ (bs : List Body). HaveMet c.self.inside.shapes.now bs c.fill.new.self.centers (held_by c.self.inside.contacts) c.self.inside.contacts.list.pairs c.meet_all.new.loads c.meet_all.new.fresh) (c.as_slice-2.ensures ∙ c.unpack_into.ensures) c.meet_all.ensures.met in
     let start = about c.self.inside.shapes.now c.self.inside.drift c.self.inside.step c.self.inside.listed c.self.inside.bodies c.self.inside.contacts c.fill.new.self.centers c.meet_all.new.loads c.meet_all.new.fresh c.self.invariant.0 can filled met in
     let size : length c.meet_all.new.loads ≡ c.self.inside.loads.len = omega (arith, c.meet_all.auto.loads, c.as_mut_slice.ensures.len) in
     let loads : c.as_slice-4.result.now ≡ c.meet_all.new.loads = c.as_slice-4.ensures.value ∙ with_items_is c.self.inside.loads c.meet_all.new.loads size in
     let ended : advanced_from c.self.inside.shapes.now (c.self.inside.step + 1) 0 c.self.inside.shapes.now.clumps c.self.inside.bodies c.meet_all.new.loads ≡ Err c.in-Err.end =
     subst (λ (ws : List Load). advanced_from c.self.inside.shapes.now (c.self.inside.step + 1) 0 c.self.inside.shapes.now.clumps c.self.inside.bodies ws ≡ Err c.in-Err.end) loads
-    (subst (λ (bs : List Body). advanced_from c.self.inside.shapes.now (c.self.inside.step + 1) 0 c.self.inside.shapes.now.clumps bs c.as_slice-4.result.now ≡ Err c.in-Err.end) c.as_slice-3.ensures c.in-Err.ensures.ended) in (
+    (subst (λ (bs : List Body). advanced_from c.self.inside.shapes.now (c.self.inside.step + 1) 0 c.self.inside.shapes.now.clumps bs c.as_slice-4.result.now ≡ Err c.in-Err.end) (c.as_slice-3.ensures ∙ c.unpack_into.ensures) c.in-Err.ensures.ended) in (
       subst (λ (r : Stepper). step_of r.scene r.state ≡ Err c.in-Err.end) c.self.view_is
           (step-ends c.self.inside.shapes.now c.self.inside.drift c.self.inside.step c.self.inside.bodies c.in-Err.end c.self.inside.contacts c.fill.new.self.centers c.meet_all.new.loads c.meet_all.new.fresh start ended),
       c.self.view_is,
@@ -95,9 +95,9 @@ pub invariant_of-self : goal.invariant_of-self
 invariant_of-self g c =
     let can : IsUsable c.self.inside.shapes.now c.self.inside.drift c.self.inside.step c.self.inside.contacts.list =
     usable c.self.inside.shapes.now c.self.inside.drift c.self.inside.step c.self.inside.listed c.self.inside.bodies c.self.inside.contacts c.self.invariant.0 (subst (λ (r : Stepper). IsSomeAnd r.from (λ from. r.state.step ≤ from + r.drift)) (sym c.self.view_is) c.requires.listed) in
-    let filled : c.fill.new.self.centers ≡ centers_of c.self.inside.shapes.now c.self.inside.bodies = c.fill.ensures.centers ∙ ap (centers_of c.self.inside.shapes.now) c.as_slice.ensures in
+    let filled : c.fill.new.self.centers ≡ centers_of c.self.inside.shapes.now c.self.inside.bodies = c.fill.ensures.centers ∙ ap (centers_of c.self.inside.shapes.now) (c.as_slice.ensures ∙ c.unpack_into.ensures) in
     let met : HaveMet c.self.inside.shapes.now c.self.inside.bodies c.fill.new.self.centers (held_by c.self.inside.contacts) c.self.inside.contacts.list.pairs c.meet_all.new.loads c.meet_all.new.fresh =
-    subst (λ (bs : List Body). HaveMet c.self.inside.shapes.now bs c.fill.new.self.centers (held_by c.self.inside.contacts) c.self.inside.contacts.list.pairs c.meet_all.new.loads c.meet_all.new.fresh) c.as_slice-2.ensures c.meet_all.ensures.met in
+    subst (λ (bs : List Body). HaveMet c.self.inside.shapes.now bs c.fill.new.self.centers (held_by c.self.inside.contacts) c.self.inside.contacts.list.pairs c.meet_all.new.loads c.meet_all.new.fresh) (c.as_slice-2.ensures ∙ c.unpack_into.ensures) c.meet_all.ensures.met in
     let start = about c.self.inside.shapes.now c.self.inside.drift c.self.inside.step c.self.inside.listed c.self.inside.bodies c.self.inside.contacts c.fill.new.self.centers c.meet_all.new.loads c.meet_all.new.fresh c.self.invariant.0 can filled met in
     let size : length c.meet_all.new.loads ≡ c.self.inside.loads.len = omega (arith, c.meet_all.auto.loads, c.as_mut_slice.ensures.len) in
     let loads : c.as_slice-4.result.now ≡ c.meet_all.new.loads = c.as_slice-4.ensures.value ∙ with_items_is c.self.inside.loads c.meet_all.new.loads size in
@@ -108,7 +108,7 @@ invariant_of-self g c =
     let below : c.self.inside.step < c.self.inside.shapes.now.steps = subst (λ n. n < c.self.inside.shapes.now.steps) number (subst (λ (r : Stepper). r.state.step < r.scene.steps) (sym c.self.view_is) c.requires.goes_on) in
     let advanced : advanced_from c.self.inside.shapes.now (c.self.inside.step + 1) 0 c.self.inside.shapes.now.clumps c.self.inside.bodies c.meet_all.new.loads ≡ Ok c.advance_all.new.next =
     subst (λ (ws : List Load). advanced_from c.self.inside.shapes.now (c.self.inside.step + 1) 0 c.self.inside.shapes.now.clumps c.self.inside.bodies ws ≡ Ok c.advance_all.new.next) loads
-    (subst (λ (bs : List Body). advanced_from c.self.inside.shapes.now (c.self.inside.step + 1) 0 c.self.inside.shapes.now.clumps bs c.as_slice-4.result.now ≡ Ok c.advance_all.new.next) c.as_slice-3.ensures c.in-Ok.ensures.advanced) in
+    (subst (λ (bs : List Body). advanced_from c.self.inside.shapes.now (c.self.inside.step + 1) 0 c.self.inside.shapes.now.clumps bs c.as_slice-4.result.now ≡ Ok c.advance_all.new.next) (c.as_slice-3.ensures ∙ c.unpack_into.ensures) c.in-Ok.ensures.advanced) in
     let made : step_of c.self.inside.shapes.now (state_at c.self.inside.shapes.now c.self.inside.step) ≡ Ok (next_state (c.self.inside.step + 1) c.advance_all.new.next (kept_of c.self.inside.contacts.list.pairs c.meet_all.new.fresh)) =
     step-made c.self.inside.shapes.now c.self.inside.drift c.self.inside.step c.self.inside.bodies c.advance_all.new.next c.self.inside.contacts c.fill.new.self.centers c.meet_all.new.loads c.meet_all.new.fresh start advanced in
     let items = with_items_is c.self.inside.fresh c.meet_all.new.fresh fresh_size in
@@ -121,6 +121,7 @@ invariant_of-self g c =
       record {
         places = record { centers = ap length filled ∙ length-centers_of c.self.inside.shapes.now c.self.inside.bodies; sides = c.fill.ensures.sides.count };
         load_each = ap length (with_items_is c.self.inside.loads c.meet_all.new.loads size) ∙ load_count;
+        unpacked_each = ap length c.unpack_into.ensures ∙ c.self.invariant.0.sound.count;
         body_each = ap length c.swap.ensures.y_after ∙ c.self.invariant.0.sound.count;
         entry_each = omega (arith, ap (λ (h : HeldByPlace). length h.list.pairs) taken, ap length c.exchange.ensures.given, c.self.invariant.0.contacts_are.as_many);
       },
@@ -130,9 +131,9 @@ pub returns-in-Ok-clause-step : goal.returns-in-Ok-clause-step
 returns-in-Ok-clause-step g c =
     let can : IsUsable c.self.inside.shapes.now c.self.inside.drift c.self.inside.step c.self.inside.contacts.list =
     usable c.self.inside.shapes.now c.self.inside.drift c.self.inside.step c.self.inside.listed c.self.inside.bodies c.self.inside.contacts c.self.invariant.0 (subst (λ (r : Stepper). IsSomeAnd r.from (λ from. r.state.step ≤ from + r.drift)) (sym c.self.view_is) c.requires.listed) in
-    let filled : c.fill.new.self.centers ≡ centers_of c.self.inside.shapes.now c.self.inside.bodies = c.fill.ensures.centers ∙ ap (centers_of c.self.inside.shapes.now) c.as_slice.ensures in
+    let filled : c.fill.new.self.centers ≡ centers_of c.self.inside.shapes.now c.self.inside.bodies = c.fill.ensures.centers ∙ ap (centers_of c.self.inside.shapes.now) (c.as_slice.ensures ∙ c.unpack_into.ensures) in
     let met : HaveMet c.self.inside.shapes.now c.self.inside.bodies c.fill.new.self.centers (held_by c.self.inside.contacts) c.self.inside.contacts.list.pairs c.meet_all.new.loads c.meet_all.new.fresh =
-    subst (λ (bs : List Body). HaveMet c.self.inside.shapes.now bs c.fill.new.self.centers (held_by c.self.inside.contacts) c.self.inside.contacts.list.pairs c.meet_all.new.loads c.meet_all.new.fresh) c.as_slice-2.ensures c.meet_all.ensures.met in
+    subst (λ (bs : List Body). HaveMet c.self.inside.shapes.now bs c.fill.new.self.centers (held_by c.self.inside.contacts) c.self.inside.contacts.list.pairs c.meet_all.new.loads c.meet_all.new.fresh) (c.as_slice-2.ensures ∙ c.unpack_into.ensures) c.meet_all.ensures.met in
     let start = about c.self.inside.shapes.now c.self.inside.drift c.self.inside.step c.self.inside.listed c.self.inside.bodies c.self.inside.contacts c.fill.new.self.centers c.meet_all.new.loads c.meet_all.new.fresh c.self.invariant.0 can filled met in
     let size : length c.meet_all.new.loads ≡ c.self.inside.loads.len = omega (arith, c.meet_all.auto.loads, c.as_mut_slice.ensures.len) in
     let loads : c.as_slice-4.result.now ≡ c.meet_all.new.loads = c.as_slice-4.ensures.value ∙ with_items_is c.self.inside.loads c.meet_all.new.loads size in
@@ -143,7 +144,7 @@ returns-in-Ok-clause-step g c =
     let below : c.self.inside.step < c.self.inside.shapes.now.steps = subst (λ n. n < c.self.inside.shapes.now.steps) number (subst (λ (r : Stepper). r.state.step < r.scene.steps) (sym c.self.view_is) c.requires.goes_on) in
     let advanced : advanced_from c.self.inside.shapes.now (c.self.inside.step + 1) 0 c.self.inside.shapes.now.clumps c.self.inside.bodies c.meet_all.new.loads ≡ Ok c.advance_all.new.next =
     subst (λ (ws : List Load). advanced_from c.self.inside.shapes.now (c.self.inside.step + 1) 0 c.self.inside.shapes.now.clumps c.self.inside.bodies ws ≡ Ok c.advance_all.new.next) loads
-    (subst (λ (bs : List Body). advanced_from c.self.inside.shapes.now (c.self.inside.step + 1) 0 c.self.inside.shapes.now.clumps bs c.as_slice-4.result.now ≡ Ok c.advance_all.new.next) c.as_slice-3.ensures c.in-Ok.ensures.advanced) in
+    (subst (λ (bs : List Body). advanced_from c.self.inside.shapes.now (c.self.inside.step + 1) 0 c.self.inside.shapes.now.clumps bs c.as_slice-4.result.now ≡ Ok c.advance_all.new.next) (c.as_slice-3.ensures ∙ c.unpack_into.ensures) c.in-Ok.ensures.advanced) in
     let made : step_of c.self.inside.shapes.now (state_at c.self.inside.shapes.now c.self.inside.step) ≡ Ok (next_state (c.self.inside.step + 1) c.advance_all.new.next (kept_of c.self.inside.contacts.list.pairs c.meet_all.new.fresh)) =
     step-made c.self.inside.shapes.now c.self.inside.drift c.self.inside.step c.self.inside.bodies c.advance_all.new.next c.self.inside.contacts c.fill.new.self.centers c.meet_all.new.loads c.meet_all.new.fresh start advanced in
     let items = with_items_is c.self.inside.fresh c.meet_all.new.fresh fresh_size in

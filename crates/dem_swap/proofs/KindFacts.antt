@@ -45,7 +45,7 @@ posts turn stop slot d (Some k) c company home sound f =
       stop_is = f.stop_is;
       saw_stop = f.saw_stop;
       posted_sound = (sound, f.posted_sound);
-      sides = record { alone = company; terms_are = s.terms_are; slot_sound = sound; copy_sound = s.copy_sound; saw_stop = s.saw_stop; turns = ((omega arith, n.1, n.2), refl) };
+      sides = record { alone = company; terms_are = s.terms_are; slot_sound = sound; copy_sound = s.copy_sound; no_copy = s.no_copy; saw_stop = s.saw_stop; turns = ((omega arith, n.1, n.2), refl) };
     }
 
 -- 2
@@ -58,7 +58,7 @@ takes stop d k c f =
       stop_is = f.stop_is;
       saw_stop = f.saw_stop;
       posted_sound = f.posted_sound;
-      sides = record { alone = s.alone; terms_are = s.terms_are; slot_sound = tt; copy_sound = s.slot_sound; saw_stop = s.saw_stop; turns = ((n.0, omega arith, n.2), refl, (c.snap, refl, s.turns.1)) };
+      sides = record { alone = s.alone; terms_are = s.terms_are; slot_sound = tt; copy_sound = s.slot_sound; no_copy = λ (none : k.taken + 1 ≡ 0). absurd (omega arith); saw_stop = s.saw_stop; turns = ((n.0, omega arith, n.2), refl, (c.snap, refl, s.turns.1)) };
     }
 
 -- 3
@@ -78,6 +78,7 @@ delivers turn stop slot d k c taken answer f =
         terms_are = s.terms_are;
         slot_sound = subst (λ (o : Option Snap). IfSome o (IsSoundFor d.terms)) taken.copy_is s.copy_sound;
         copy_sound = s.copy_sound;
+        no_copy = s.no_copy;
         saw_stop = s.saw_stop;
         turns = ((n.0, n.1, omega arith), (w.1.2 ∙ (sym w.1.1 ∙ taken.copy_is), subst (λ (o : Option Terms). IsAnswer o c) s.terms_are answer));
       };
@@ -95,7 +96,7 @@ collects stop d k c f =
       stop_is = f.stop_is;
       saw_stop = f.saw_stop;
       posted_sound = f.posted_sound;
-      sides = record { alone = s.alone; terms_are = s.terms_are; slot_sound = tt; copy_sound = s.copy_sound; saw_stop = s.saw_stop; turns = ((omega arith, omega arith, omega arith), refl) };
+      sides = record { alone = s.alone; terms_are = s.terms_are; slot_sound = tt; copy_sound = s.copy_sound; no_copy = s.no_copy; saw_stop = s.saw_stop; turns = ((omega arith, omega arith, omega arith), refl) };
     }
 
 -- a number that isn't 0
@@ -128,7 +129,7 @@ dynamics_looks turn stop slot d (Some k) n f = let s = f.sides in record {
   stop_is = f.stop_is;
   saw_stop = f.saw_stop;
   posted_sound = f.posted_sound;
-  sides = record { alone = s.alone; terms_are = s.terms_are; slot_sound = s.slot_sound; copy_sound = s.copy_sound; saw_stop = s.saw_stop; turns = turns_keep turn slot d k d.raised (dynamics_looking d n).looks k.looks s.turns };
+  sides = record { alone = s.alone; terms_are = s.terms_are; slot_sound = s.slot_sound; copy_sound = s.copy_sound; no_copy = s.no_copy; saw_stop = s.saw_stop; turns = turns_keep turn slot d k d.raised (dynamics_looking d n).looks k.looks s.turns };
 }
 
 -- 5 of dynamics at the stop word
@@ -143,7 +144,7 @@ dynamics_checks turn stop slot d (Some k) f = let s = f.sides in record {
   stop_is = f.stop_is;
   saw_stop = λ e. e;
   posted_sound = f.posted_sound;
-  sides = record { alone = s.alone; terms_are = s.terms_are; slot_sound = s.slot_sound; copy_sound = s.copy_sound; saw_stop = s.saw_stop; turns = turns_keep turn slot d k d.raised (dynamics_checking d stop).looks k.looks s.turns };
+  sides = record { alone = s.alone; terms_are = s.terms_are; slot_sound = s.slot_sound; copy_sound = s.copy_sound; no_copy = s.no_copy; saw_stop = s.saw_stop; turns = turns_keep turn slot d k d.raised (dynamics_checking d stop).looks k.looks s.turns };
 }
 
 -- 5 of kinematics, where it reads what stands at the stop word, or leaves what it saw there
@@ -152,7 +153,7 @@ kinematics_looks turn stop slot d k looks seen f = let s = f.sides in record {
   stop_is = f.stop_is;
   saw_stop = f.saw_stop;
   posted_sound = f.posted_sound;
-  sides = record { alone = s.alone; terms_are = s.terms_are; slot_sound = s.slot_sound; copy_sound = s.copy_sound; saw_stop = seen; turns = turns_keep turn slot d k d.raised d.looks looks s.turns };
+  sides = record { alone = s.alone; terms_are = s.terms_are; slot_sound = s.slot_sound; copy_sound = s.copy_sound; no_copy = s.no_copy; saw_stop = seen; turns = turns_keep turn slot d k d.raised d.looks looks s.turns };
 }
 
 -- 5 of kinematics at the turn word
@@ -179,6 +180,7 @@ splits turn stop slot d t known f =
         terms_are = refl;
         slot_sound = subst (IsSoundSlot d.terms) (sym away) tt;
         copy_sound = tt;
+        no_copy = λ none. refl;
         saw_stop = λ (e : 0 ≡ 1). absurd (omega arith);
         turns = subst (λ (n : ℕ). Turns n slot (accompanied d) (beside d)) (sym s.turn_is) ((omega arith, omega arith, omega arith), away);
       };
@@ -196,7 +198,7 @@ raises turn stop slot d (Some k) f = let s = f.sides in record {
   stop_is = refl;
   saw_stop = λ e. refl;
   posted_sound = f.posted_sound;
-  sides = record { alone = s.alone; terms_are = s.terms_are; slot_sound = s.slot_sound; copy_sound = s.copy_sound; saw_stop = λ e. refl; turns = turns_keep turn slot d k true d.looks k.looks s.turns };
+  sides = record { alone = s.alone; terms_are = s.terms_are; slot_sound = s.slot_sound; copy_sound = s.copy_sound; no_copy = s.no_copy; saw_stop = λ e. refl; turns = turns_keep turn slot d k true d.looks k.looks s.turns };
 }
 
 -- 8

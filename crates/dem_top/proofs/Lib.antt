@@ -8,3 +8,4 @@ pub mod StandFacts
 pub mod ThreadFacts
 pub mod ListsFacts
 pub mod ComparedFacts
+pub mod SummaryFacts

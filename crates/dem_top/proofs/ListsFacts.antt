@@ -126,17 +126,17 @@ module _ (o : OrderValue) (s shapes : SceneValue) (same : shapes ≡ s) (notes :
 
 -- ---- the run as the order has it: of its scene, under its drift limit, and with its turns
 
-module _ (o : OrderValue) (s shapes : SceneValue) (same : shapes ≡ s) (g : GridValue) (is : g ≡ grid_of shapes o.drift o.bin) where
-  drift-is : g.drift ≡ o.drift
+module _ (s shapes : SceneValue) (same : shapes ≡ s) (drift bin : ℕ) (g : GridValue) (is : g ≡ grid_of shapes drift bin) where
+  drift-is : g.drift ≡ drift
   unfolding grid_of
   drift-is = ap (λ (x : GridValue). x.drift) is
 
-  pub by-turns : (turns : List Turn) (out note : Change) (result : Result Last WorldStop) → turns ≡ o.turns → RunsTurns shapes g.drift turns out note result
-      → RunsOn s (OfTurns s o.drift o.turns) out note result
-  by-turns turns out note result given run =
-      subst (λ x. RunsTurns x o.drift o.turns out note result) same
-      (subst (λ n. RunsTurns shapes n o.turns out note result) drift-is (subst (λ l. RunsTurns shapes g.drift l out note result) given run))
+  pub by-turns : (turns given : List Turn) (out note : Change) (result : Result Last WorldStop) → turns ≡ given → RunsTurns shapes g.drift turns out note result
+      → RunsOn s (OfTurns s drift given) out note result
+  by-turns turns given out note result are run =
+      subst (λ x. RunsTurns x drift given out note result) same
+      (subst (λ n. RunsTurns shapes n given out note result) drift-is (subst (λ l. RunsTurns shapes g.drift l out note result) are run))
 
-  pub by-threads : (out note : Change) (result : Result Last WorldStop) → RunsThreads shapes g.drift out note result → RunsOn s (OfThreads s o.drift) out note result
+  pub by-threads : (out note : Change) (result : Result Last WorldStop) → RunsThreads shapes g.drift out note result → RunsOn s (OfThreads s drift) out note result
   by-threads out note result run =
-      subst (λ x. RunsThreads x o.drift out note result) same (subst (λ n. RunsThreads shapes n out note result) drift-is run)
+      subst (λ x. RunsThreads x drift out note result) same (subst (λ n. RunsThreads shapes n out note result) drift-is run)

@@ -45,7 +45,7 @@ module _ (s : SceneValue) (drift : ℕ) (a b from to : Stream) where
 
   -- it stopped
   pub threads-stopped : (fault : RunFault) → AppendsPrefix a.bytes b.bytes (output_of s) → HasNoted s drift from.bytes to.bytes
-      → HasRunFaults {Ran} a.faults b.faults from.faults to.faults (Err fault) → RunsThreads s drift (between a b) (between from to) (Err (stop_by fault))
+      → HasRunFaults {A = Ran} a.faults b.faults from.faults to.faults (Err fault) → RunsThreads s drift (between a b) (between from to) (Err (stop_by fault))
   threads-stopped runs.WriteFault written noted faults = (
     begun written noted,
     ⊎_elim (λ (f : Rose a.faults b.faults × (to.faults ≡ from.faults)). inl f.0) (λ (f : Rose from.faults to.faults × (b.faults ≡ a.faults)). inr f.0) faults,

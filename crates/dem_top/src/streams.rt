@@ -30,15 +30,13 @@ pub struct Served<W, E> {
 }
 
 /// The top call over these streams; what the buffer of the output still holds is passed on at the end, and a failure there counts as one of a put.
-pub fn stream_call<H: Threads + Wait + Sync, R: Read + Drop, W: Write + Drop, E: Write + Drop, G: Gate>(
-    rt: &H,
-    alloc: Global,
-    words: &[String],
-    input: R,
-    output: W,
-    errors: E,
-    gate: &G,
-) -> Served<W, E>
+pub fn stream_call<
+    H: Threads + Wait + Sync,
+    R: Read + Drop,
+    W: Write + Drop,
+    E: Write + Drop,
+    G: Gate,
+>(rt: &H, alloc: Global, words: &[String], input: R, output: W, errors: E, gate: &G) -> Served<W, E>
     ensures serves { IfSome result.writers (λ w. Serves (job_meant (words_of words.now)) (R.remaining input) (passed (W.contents output) (W.contents w.output))
         (passed (E.contents errors) (E.contents w.errors)) result.status) }
     ensures no_buffer { result.writers ≡ None → result.status ≡ 6 }

@@ -12,7 +12,8 @@ use std::thread::Threads;
 pub(crate) const STILL: &[u8] =
     br#"{"version":1,"box":[1,1,1],"steps":0,"every":1,"speed":65536,"spin":1024,"materials":[{"kn":1}],"templates":[{"mass":1,"moments":[1,1,1],"spheres":[{"at":[0,0,0],"r":10,"mat":0}]}],"clumps":[{"t":0,"p":[100,100,100]}]}"#;
 
-pub(crate) const STILL_OUT: &[u8] = b"frame,0\nclump,0,100,100,100,0,0,0,1073741824,0,0,0,0,0,0\nend,done,0\n";
+pub(crate) const STILL_OUT: &[u8] =
+    b"frame,0\nclump,0,100,100,100,0,0,0,1073741824,0,0,0,0,0,0\nend,done,0\n";
 
 // What is held of it where the third put fails after four bytes.
 const STILL_CUT: &[u8] = b"frame,0\nclump,0,100,100,100,0,0,0,1073741824,0,0,0,0,0,0\nend,";

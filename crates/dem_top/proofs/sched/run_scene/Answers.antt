@@ -33,7 +33,7 @@ returns-in_err-last g c =
     let e = c.in_ok-grid.ensures in
     rw (← c.order.view_is, p.1, p.2)
     (scene-cut _ s shapes c.in_ok-shapes.ensures _ c.in_ok-grid.grid e.grid e.fits out note c.in_err-last.field-0.0 c.if-order.true
-    (by-turns _ s shapes c.in_ok-shapes.ensures c.in_ok-grid.grid e.grid c.as_slice-turns.result.now out note (Err c.in_err-last.field-0.0) c.as_slice-turns.ensures c.in_err-last.ensures))
+    (by-turns s shapes c.in_ok-shapes.ensures _ _ c.in_ok-grid.grid e.grid c.as_slice-turns.result.now _ out note (Err c.in_err-last.field-0.0) c.as_slice-turns.ensures c.in_err-last.ensures))
 
 pub returns-then-order : goal.returns-then-order
 returns-then-order g c =
@@ -44,7 +44,7 @@ returns-then-order g c =
     let e = c.in_ok-grid.ensures in
     rw (← c.order.view_is, c.from.ensures)
     (scene-noted _ s shapes c.in_ok-shapes.ensures _ c.in_ok-grid.grid e.grid e.fits out note c.in_ok-last.last c.if-order.true
-    (by-turns _ s shapes c.in_ok-shapes.ensures c.in_ok-grid.grid e.grid c.as_slice-turns.result.now out note (Ok c.in_ok-last.last) c.as_slice-turns.ensures c.in_ok-last.ensures))
+    (by-turns s shapes c.in_ok-shapes.ensures _ _ c.in_ok-grid.grid e.grid c.as_slice-turns.result.now _ out note (Ok c.in_ok-last.last) c.as_slice-turns.ensures c.in_ok-last.ensures))
 
 -- the changes of a sink that keeps nothing
 blank : Change
@@ -61,7 +61,7 @@ returns-in_err-last-2 g c =
     let e = c.in_ok-grid.ensures in
     rw (← c.order.view_is, p.1, p.2)
     (scene-silent-cut _ s shapes c.in_ok-shapes.ensures _ c.in_ok-grid.grid e.grid e.fits out blank note.before c.in_err-last-2.field-0.0 zero-calm c.if-order.false
-    (by-turns _ s shapes c.in_ok-shapes.ensures c.in_ok-grid.grid e.grid c.as_slice-turns.result.now out blank (Err c.in_err-last-2.field-0.0) c.as_slice-turns.ensures c.in_err-last-2.ensures))
+    (by-turns s shapes c.in_ok-shapes.ensures _ _ c.in_ok-grid.grid e.grid c.as_slice-turns.result.now _ out blank (Err c.in_err-last-2.field-0.0) c.as_slice-turns.ensures c.in_err-last-2.ensures))
 
 pub returns : goal.returns
 unfolding blank
@@ -73,4 +73,4 @@ returns g c =
     let e = c.in_ok-grid.ensures in
     rw (← c.order.view_is, c.from-2.ensures)
     (scene-silent _ s shapes c.in_ok-shapes.ensures _ c.in_ok-grid.grid e.grid e.fits out blank note.before c.in_ok-last-2.last c.if-order.false
-    (by-turns _ s shapes c.in_ok-shapes.ensures c.in_ok-grid.grid e.grid c.as_slice-turns.result.now out blank (Ok c.in_ok-last-2.last) c.as_slice-turns.ensures c.in_ok-last-2.ensures))
+    (by-turns s shapes c.in_ok-shapes.ensures _ _ c.in_ok-grid.grid e.grid c.as_slice-turns.result.now _ out blank (Ok c.in_ok-last-2.last) c.as_slice-turns.ensures c.in_ok-last-2.ensures))

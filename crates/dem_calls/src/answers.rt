@@ -1,0 +1,71 @@
+//! What the calls answer on one scene.
+
+ghost use Rattle.std.specs.Prelude.{◌≡◌, ◌<◌};
+
+use crate::finding::{Found, find};
+use crate::stepping::{Stand, go_on_one_list};
+use crate::turning::{Turned, try_turns};
+use dem_core::WorldStop;
+use dem_model::{OutOfMemory, Scene, Steps};
+use dem_shape::Shapes;
+use dem_step::Dyn;
+use std::alloc::Global;
+use std::marker::Brand;
+use std::sync::ledger::{Blank, Ledger};
+
+/// The drift limit of all lists, in steps.
+const DRIFT: u32 = 4;
+
+/// The sides of the bins, in u; 0 stands for the greatest reach of a sphere.
+const SIDES: [u32; 4] = [0, 1437, 1438, 5032];
+
+/// What the calls answer.
+#[derive(Drop)]
+pub struct Answers {
+    /// What bins of each side find.
+    pub finds: Vec<Found>,
+    /// Where steps on one list lead.
+    pub stand: Stand,
+    /// What the turns of a world come to.
+    pub turns: Turned,
+}
+
+/// Makes the calls on a scene.
+pub fn ask(alloc: Global, scene: &Scene) -> Result<Answers, WorldStop> {
+    let shapes = Shapes::new(alloc, scene)?;
+    all::<Brand>(alloc, &shapes, Blank::new(1))
+}
+
+/// Makes the calls, with their tests counted on a counter that nobody reads.
+fn all<L: Ledger>(alloc: Global, shapes: &Shapes, blank: Blank) -> Result<Answers, WorldStop>
+    requires name { blank.name ≡ L.name }
+    requires parts { blank.parts ≡ L.parts }
+    requires some { 0 < L.parts }
+{
+    let mut tests = Steps::<L>::new(blank);
+    let mut run = Dyn::new(alloc, shapes, DRIFT)?;
+    let finds = all_finds(alloc, &run, &mut tests)?;
+    go_on_one_list(alloc, &mut run, &mut tests)?;
+    let stand = Stand::of(alloc, &run)?;
+    let turns = try_turns(alloc, shapes, DRIFT, &mut tests)?;
+    Ok(Answers {
+        finds,
+        stand,
+        turns,
+    })
+}
+
+/// What bins of each side find for the state of a run.
+fn all_finds<L: Ledger>(
+    alloc: Global,
+    run: &Dyn,
+    tests: &mut Steps<L>,
+) -> Result<Vec<Found>, OutOfMemory> {
+    let mut finds = Vec::new(alloc);
+    for side in SIDES {
+        if finds.push(find(alloc, run, side, tests)?).is_err() {
+            return Err(OutOfMemory);
+        }
+    }
+    Ok(finds)
+}

@@ -1,0 +1,120 @@
+//! Steps on one list, and where they lead.
+
+ghost use Rattle.std.specs.Prelude.{◌≡◌, IfOk};
+ghost use Rattle.dem_step.specs.Stepper.{IsListOfRun};
+
+use dem_list::PairList;
+use dem_margin::build_all;
+use dem_model::{Body, Held, OutOfMemory, Steps};
+use dem_shape::Snapshot;
+use dem_step::Dyn;
+use std::alloc::Global;
+use std::fmt::{self, Display, Formatter};
+use std::sync::ledger::Ledger;
+
+/// Where a run stands.
+#[derive(Drop)]
+pub struct Stand {
+    step: u32,
+    list_from: Option<u32>,
+    bodies: Vec<Body>,
+    held: Vec<Held>,
+}
+
+/// Takes the near list of the state of a run into use, and makes all steps that may be made on it.
+pub fn go_on_one_list<L: Ledger>(
+    alloc: Global,
+    run: &mut Dyn,
+    tests: &mut Steps<L>,
+) -> Result<(), OutOfMemory> {
+    let list = near_list(alloc, run)?;
+    if !run.can_adopt(&list) {
+        return Ok(());
+    }
+    if let Err((_, fault)) = run.adopt(list) {
+        return Err(fault);
+    }
+    for _ in 0..run.shapes().scene().steps {
+        if !run.can_step() {
+            break;
+        }
+        if run.step(tests).is_err() {
+            break;
+        }
+    }
+    Ok(())
+}
+
+/// The list of the near pairs of a run's state, every pair tested.
+fn near_list(alloc: Global, run: &Dyn) -> Result<PairList, OutOfMemory>
+    ensures { IfOk result (IsListOfRun run.now.scene run.now.drift) }
+{
+    let shapes = run.shapes();
+    let mut snap = Snapshot::new(alloc, shapes.scene().clumps.len() as u32)?;
+    run.snapshot_into(&mut snap);
+    match build_all(alloc, shapes, &snap, run.drift(), PairList::empty(alloc)) {
+        Ok(list) => {
+            run.list_of_run(&snap, &list);
+            Ok(list)
+        }
+        Err((_, fault)) => Err(fault),
+    }
+}
+
+impl Stand {
+    /// Where this run stands.
+    pub fn of(alloc: Global, run: &Dyn) -> Result<Stand, OutOfMemory> {
+        Ok(Stand {
+            step: run.now(),
+            list_from: run.list_from(),
+            bodies: bodies_of(alloc, run)?,
+            held: held_in(alloc, run)?,
+        })
+    }
+}
+
+/// The bodies of a run.
+fn bodies_of(alloc: Global, run: &Dyn) -> Result<Vec<Body>, OutOfMemory> {
+    let mut bodies = Vec::new(alloc);
+    for k in 0..run.shapes().scene().clumps.len() {
+        if bodies.push(run.body(k as u32)).is_err() {
+            return Err(OutOfMemory);
+        }
+    }
+    Ok(bodies)
+}
+
+/// The displacements that a run holds of the pairs in use.
+fn held_in(alloc: Global, run: &Dyn) -> Result<Vec<Held>, OutOfMemory> {
+    let mut held = Vec::new(alloc);
+    let contacts = run.contacts();
+    for i in 0..contacts.list().len() {
+        if let Some(h) = contacts.held(i) {
+            let pair = contacts.list().get(i);
+            if held.push(Held { pair, h }).is_err() {
+                return Err(OutOfMemory);
+            }
+        }
+    }
+    Ok(held)
+}
+
+impl Display for Stand {
+    fn fmt<W: fmt::Write>(&self, f: &mut Formatter<W>) -> fmt::Result {
+        write!(f, "on one list: at step {}", self.step)?;
+        if let Some(from) = self.list_from {
+            write!(f, ", its list from step {from}")?;
+        }
+        for body in self.bodies.as_slice() {
+            let (p, v) = (body.p, body.v);
+            write!(f, "; at {} {} {}", p.x, p.y, p.z)?;
+            write!(f, " by {} {} {}", v.x, v.y, v.z)?;
+        }
+        for held in self.held.as_slice() {
+            let (pair, h) = (held.pair, held.h);
+            write!(f, "; {} {} held ", pair.a, pair.b)?;
+            write!(f, "{} {} {}", h.x, h.y, h.z)?;
+        }
+        Ok(())
+    }
+}

@@ -25,6 +25,12 @@ const PULLED: &[u8] =
 const PULLED_OUT: &[u8] =
     b"frame,0\nclump,0,100,100,100,65535,0,0,1073741824,0,0,0,0,0,0\nframe,1\nclump,0,101,100,100,65536,0,0,1073741824,0,0,0,0,0,0\nend,speed,2,0\n";
 
+// The run of a made scene in whose last state one pair touches, as a second calculation has it.
+const MADE_OUT: &[u8] = b"gen,276,64\nsum,403203672,403254721,403050095\ntouch,1\nend,done,100\n";
+
+// What is held of it where the third put fails after six bytes.
+const MADE_CUT: &[u8] = b"gen,276,64\nsum,403203672,403254721,403050095\ntouch,";
+
 const USAGE: &[u8] =
     b"usage: dem MODE [--drift N] [--bin N] [--turns T] [--seed N] [--count N] [--report] [--split]\n";
 
@@ -203,6 +209,21 @@ fn ends_at_a_put_that_fails(rt: HostRuntime) -> Result<(), TestFail> {
     let left = call(&rt, &["dem"], outside)?;
     assert_eq!(rt; left.status, 5);
     assert_eq!(rt; left.note.held(), b"usage:".as_slice());
+    Ok(())
+}
+
+#[test]
+fn sums_up_a_made_scene(rt: HostRuntime) -> Result<(), TestFail> {
+    let words = ["dem", "gen", "--seed", "276", "--count", "64"];
+    let mut outside = calm(b"no scene");
+    let left = call(&rt, words.as_slice(), outside)?;
+    assert_eq!(rt; left.status, 0);
+    assert_eq!(rt; left.out.held(), MADE_OUT);
+    assert_eq!(rt; left.note.held(), b"".as_slice());
+    outside.put = Some(Fail { call: 3, take: 6 });
+    let left = call(&rt, words.as_slice(), outside)?;
+    assert_eq!(rt; left.status, 5);
+    assert_eq!(rt; left.out.held(), MADE_CUT);
     Ok(())
 }
 

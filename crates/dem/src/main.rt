@@ -1,10 +1,11 @@
 //! The program `dem`: the top call over the arguments and the streams of the process.
 //!
-//! The words are the arguments, the source is standard input, `out` is standard output, buffered, and `note` is standard
-//! error. The process ends with the call's status. Not here: anything that the call does (dem_top).
+//! The words are the arguments, the source is standard input, `out` is standard output, buffered, `note` is standard error,
+//! and the gate is open. The process ends with the call's status. Not here: anything that the call does (dem_top).
 #![tactic(auto)]
 
 use dem_model::OutOfMemory;
+use dem_outside::OpenGate;
 use dem_top::stream_call;
 use std::env;
 use std::io::ErrorKind;
@@ -18,11 +19,13 @@ fn main(rt: HostRuntime) -> ExitCode {
     let status = match read_words(&rt) {
         Ok(words) => {
             stream_call(
+                &rt,
                 rt.alloc(),
                 words.as_slice(),
                 rt.stdin(),
                 rt.stdout(),
                 rt.stderr(),
+                &OpenGate,
             )
             .status
         }

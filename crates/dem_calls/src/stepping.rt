@@ -8,6 +8,7 @@ use dem_margin::build_all;
 use dem_model::{Body, Held, OutOfMemory, Steps};
 use dem_shape::Snapshot;
 use dem_step::Dyn;
+use dem_voxel::VoxelPos;
 use std::alloc::Global;
 use std::fmt::{self, Display, Formatter};
 use std::sync::ledger::Ledger;
@@ -18,6 +19,7 @@ pub struct Stand {
     step: u32,
     list_from: Option<u32>,
     bodies: Vec<Body>,
+    stored: Vec<VoxelPos>,
     held: Vec<Held>,
 }
 
@@ -68,6 +70,7 @@ impl Stand {
             step: run.now(),
             list_from: run.list_from(),
             bodies: bodies_of(alloc, run)?,
+            stored: stored_in(alloc, run)?,
             held: held_in(alloc, run)?,
         })
     }
@@ -82,6 +85,17 @@ fn bodies_of(alloc: Global, run: &Dyn) -> Result<Vec<Body>, OutOfMemory> {
         }
     }
     Ok(bodies)
+}
+
+/// The stored positions of a run.
+fn stored_in(alloc: Global, run: &Dyn) -> Result<Vec<VoxelPos>, OutOfMemory> {
+    let mut stored = Vec::new(alloc);
+    for k in 0..run.shapes().scene().clumps.len() {
+        if stored.push(run.voxel(k as u32)).is_err() {
+            return Err(OutOfMemory);
+        }
+    }
+    Ok(stored)
 }
 
 /// The displacements that a run holds of the pairs in use.
@@ -109,6 +123,10 @@ impl Display for Stand {
             let (p, v) = (body.p, body.v);
             write!(f, "; at {} {} {}", p.x, p.y, p.z)?;
             write!(f, " by {} {} {}", v.x, v.y, v.z)?;
+        }
+        for at in self.stored.as_slice() {
+            write!(f, "; in voxel {} at ", at.id)?;
+            write!(f, "{} {} {}", at.ox, at.oy, at.oz)?;
         }
         for held in self.held.as_slice() {
             let (pair, h) = (held.pair, held.h);

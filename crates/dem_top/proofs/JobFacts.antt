@@ -20,7 +20,7 @@ use Rattle.dem_top.specs.declared.outcome.NotDone.{NotDone}
 use Rattle.dem_top.specs.declared.outcome.NotDone.TheVariants as stops
 use Rattle.dem_top.specs.declared.refusal.Refusal.TheVariants as refusals
 use Rattle.dem_top.specs.TurnNotes.{NotesSoFar}
-use Rattle.dem_top.specs.Verdicts.{Verdict, Refused, Written, Notes, Exactly, OfTurns, MayNote, MayBegin, MayGain, MayStart, no_rows, out_text, run_status, run_verdict, on_scene, plain_verdict, verdict_status}
+use Rattle.dem_top.specs.Verdicts.{Verdict, Refused, Written, Notes, Exactly, OfTurns, OfThreads, MayNote, MayBegin, MayGain, MayStart, no_rows, out_text, run_status, run_verdict, on_scene, plain_verdict, verdict_status}
 use Rattle.dem_top.specs.Jobs.{Job, ForTold, ForLeft}
 use Rattle.dem_top.specs.Answers.{Fulfils, Begins}
 use Rattle.dem_top.specs.Refusals.{outcome_status, refusal_status, refusal_text}
@@ -33,6 +33,7 @@ use Rattle.dem_top.proofs.LeftFacts.{ForTold-weaker, ForTold-all}
 note-begins : (notes : Notes) (rows : List ℕ) → MayNote notes rows → MayBegin notes rows
 note-begins (Exactly rows') rows may = may
 note-begins (OfTurns s drift turns) rows may = inr may
+note-begins (OfThreads s drift) rows may = inr may
 
 pub gain-starts : (v : Verdict) (rows : List ℕ) → MayGain v rows → MayStart v rows
 gain-starts (Refused status line) rows may = may
@@ -42,6 +43,7 @@ gain-starts (Written status text notes) rows may = note-begins notes rows may
 some-notes : (notes : Notes) → (rows : List ℕ) × MayBegin notes rows
 some-notes (Exactly rows) = (rows, refl)
 some-notes (OfTurns s drift turns) = (_, inl (record { more = []; by_itself = tt; text = refl }))
+some-notes (OfThreads s drift) = ([], inl refl)
 
 some-rows : (v : Verdict) → (rows : List ℕ) × MayStart v rows
 some-rows (Refused status line) = (line, refl)

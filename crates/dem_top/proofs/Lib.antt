@@ -5,5 +5,7 @@ pub mod AnswerFacts
 pub mod StreamFacts
 pub mod TurnFacts
 pub mod StandFacts
-pub mod SchedFacts
+pub mod ThreadFacts
+pub mod ListsFacts
 pub mod ComparedFacts
+pub mod SummaryFacts

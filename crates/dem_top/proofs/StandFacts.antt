@@ -82,7 +82,7 @@ module _ (s : SceneValue) (drift bin : ℕ) where
 
   -- a prefix of the rows of some turns is one of what a run with these turns first may have noted on the way
   on-the-way : (ts us more : List Turn) (out note : Change) → GoesOnBy s drift (reached s drift (ts ++ us)) more → GainsPrefix out (output_of s)
-      → GainsPrefix note (rows_text (taken s drift ts)) → HasBegun s drift (ts ++ us) out note
+      → GainsPrefix note (rows_text (taken s drift ts)) → HasBegun s (OfTurns s drift (ts ++ us)) out note
   on-the-way ts us more out note by written prefix = record {
     written = written;
     rows = rows_text (taken s drift ((ts ++ us) ++ more));
@@ -177,7 +177,7 @@ module _ (s : SceneValue) (drift bin : ℕ) where
 
     begun-by : (result : Result Did WorldStop) (us : List Turn) → GainsBy {A = Did} (turn_text old.scene old.drift old.world t) second.bytes third.bytes result
         → GainsBy {A = Did} (rows_text (turn_rows old.scene old.drift old.world t)) mid.bytes to.bytes result
-        → HasBegun s drift ((turns ++ t ∷ []) ++ us) (between first third) (between from to)
+        → HasBegun s (OfTurns s drift ((turns ++ t ∷ []) ++ us)) (between first third) (between from to)
     begun-by result us written noted =
         on-the-way (turns ++ t ∷ []) us [] (between first third) (between from to) tt
         (part (reached s drift (turns ++ t ∷ [])) first.bytes third.bytes next-kept
@@ -239,7 +239,7 @@ module _ (s : SceneValue) (drift bin : ℕ) (turns : List Turn) (first second th
   begun-end : (result : Result Last WorldStop) (more : List Turn) → GoesOnBy old.scene old.drift old.world more
       → GainsAll {A = Last} (text_after old.scene old.drift old.world more) second.bytes third.bytes result
       → GainsAll {A = Last} (rows_text (rows_after old.scene old.drift old.world more)) mid.bytes to.bytes result
-      → HasBegun s drift turns (between first third) (between from to)
+      → HasBegun s (OfTurns s drift turns) (between first third) (between from to)
   begun-end result more by written noted = record {
     written =
         part s drift bin (reached s drift (turns ++ more)) first.bytes third.bytes (end-kept more)

@@ -8,7 +8,8 @@ use Rattle.dem_model.specs.declared.limits.TheConstants.{MAX_TEXT}
 use Rattle.dem_outside.specs.Change.{Change, IsKept, LosesAtMost}
 use Rattle.dem_top.specs.declared.comparison.TheConstants.{MAX_INPUT}
 use Rattle.dem_top.specs.Compared.{check_verdict}
-use Rattle.dem_top.specs.Verdicts.{Verdict, Refused, usage_text, plain_verdict, sched_verdict}
+use Rattle.dem_top.specs.Summaries.{gen_verdict}
+use Rattle.dem_top.specs.Verdicts.{Verdict, Refused, usage_text, plain_verdict, sched_verdict, threads_verdict}
 
 -- what is asked for
 pub record Job : Type 0 where
@@ -21,13 +22,21 @@ pub record Job : Type 0 where
 abbrev pub plain_job : Job
 plain_job = record { limit = Some MAX_TEXT; verdict = plain_verdict }
 
--- the run of a scene on lists
+-- the run of a scene on lists by given turns
 abbrev pub sched_job : OrderValue → Job
 sched_job o = record { limit = Some MAX_TEXT; verdict = sched_verdict o }
+
+-- the run of a scene on lists by two threads
+abbrev pub run_job : OrderValue → Job
+run_job o = record { limit = Some MAX_TEXT; verdict = threads_verdict o }
 
 -- rows compared with the output of a scene
 abbrev pub check_job : Job
 check_job = record { limit = Some MAX_INPUT; verdict = check_verdict }
+
+-- a summary of the run of a made scene: nothing is read
+abbrev pub gen_job : OrderValue → Job
+gen_job o = record { limit = None; verdict = λ _. gen_verdict o }
 
 -- a faulty command line: nothing is read
 abbrev pub usage_job : Job
@@ -37,9 +46,9 @@ usage_job = record { limit = None; verdict = λ _. Refused 1 usage_text }
 abbrev pub job_in : Mode → OrderValue → Job
 job_in modes.Plain o = plain_job
 job_in modes.Sched o = sched_job o
-job_in modes.Run o = usage_job
+job_in modes.Run o = run_job o
 job_in modes.Check o = check_job
-job_in modes.Gen o = usage_job
+job_in modes.Gen o = gen_job o
 job_in modes.Resume o = usage_job
 job_in modes.Look o = usage_job
 job_in modes.Pack o = usage_job

@@ -1,6 +1,7 @@
 pub mod TurnNotes
 pub mod Verdicts
 pub mod Compared
+pub mod Summaries
 pub mod Jobs
 pub mod Answers
 pub mod Refusals

@@ -24,7 +24,7 @@ use Rattle.dem_top.specs.declared.outcome.Outcome.TheVariants as outcomes
 use Rattle.dem_top.specs.declared.outcome.NotDone.{NotDone}
 use Rattle.dem_top.specs.declared.outcome.NotDone.TheVariants as stops
 use Rattle.dem_top.specs.declared.refusal.Refusal.TheVariants as refusals
-use Rattle.dem_top.specs.Verdicts.{Verdict, Refused, OfTurns, MayNote, MayBegin, read_failed_text}
+use Rattle.dem_top.specs.Verdicts.{Verdict, Refused, Notes, OfTurns, OfThreads, MayNote, MayBegin, read_failed_text}
 use Rattle.dem_top.specs.Jobs.{Job, ReadsWhole, ForLeft}
 use Rattle.dem_top.specs.Answers.{Fulfils, Begins}
 use Rattle.dem_top.specs.Refusals.{outcome_status, refusal_status, refusal_text}
@@ -55,6 +55,11 @@ abbrev pub world_stop : WorldStop → NotDone
 world_stop worlds.WriteFault = stops.WriteFailed
 world_stop worlds.OutOfMemory = stops.OutOfMemory
 
+-- why a run by two threads stopped, said as of one by turns
+abbrev pub stop_by : RunFault → WorldStop
+stop_by runs.WriteFault = worlds.WriteFault
+stop_by runs.OutOfMemory = worlds.OutOfMemory
+
 -- how a run ends
 abbrev pub run_outcome : Last → Outcome
 run_outcome (lasts.Done step) = outcomes.Reached
@@ -79,27 +84,35 @@ ReadsScene source (Err fault) = ⊥
 
 -- ---- the run on lists
 
--- prefixes of the output and of the rows of a run with these turns
-pub record HasBegun (s : SceneValue) (drift : ℕ) (turns : List Turn) (out note : Change) : Type 0 where
+-- prefixes of the output and of what a run of this scene may note
+pub record HasBegun (s : SceneValue) (notes : Notes) (out note : Change) : Type 0 where
   pub written : GainsPrefix out (output_of s)
   pub rows : List ℕ
-  pub may_be : MayBegin (OfTurns s drift turns) rows
+  pub may_be : MayBegin notes rows
   pub noted : GainsPrefix note rows
 
--- the whole output and the whole of the rows of a run with these turns
-pub record HasWritten (s : SceneValue) (drift : ℕ) (turns : List Turn) (out note : Change) (last : Last) : Type 0 where
+-- the whole output and the whole of what a run of this scene may note
+pub record HasWritten (s : SceneValue) (notes : Notes) (out note : Change) (last : Last) : Type 0 where
   pub last_is : last ≡ last_of s
   pub written : Gains out (output_of s)
   pub rows : List ℕ
-  pub may_be : MayNote (OfTurns s drift turns) rows
+  pub may_be : MayNote notes rows
   pub noted : Gains note rows
   pub calm : IsCalm out × IsCalm note
 
--- a run of this scene on lists, with these turns first: all was written; or prefixes, and why
+-- a run of this scene on lists that may note so: all was written; or prefixes, and why
+abbrev pub RunsOn : SceneValue → Notes → (out note : Change) → Result Last WorldStop → Type 0
+RunsOn s notes out note (Ok last) = HasWritten s notes out note last
+RunsOn s notes out note (Err worlds.WriteFault) = HasBegun s notes out note × (Fails out ⊎ Fails note)
+RunsOn s notes out note (Err worlds.OutOfMemory) = HasBegun s notes out note × IsCalm out × IsCalm note
+
+-- a run of this scene on lists, with these turns first
 abbrev pub RunsTurns : SceneValue → ℕ → List Turn → (out note : Change) → Result Last WorldStop → Type 0
-RunsTurns s drift turns out note (Ok last) = HasWritten s drift turns out note last
-RunsTurns s drift turns out note (Err worlds.WriteFault) = HasBegun s drift turns out note × (Fails out ⊎ Fails note)
-RunsTurns s drift turns out note (Err worlds.OutOfMemory) = HasBegun s drift turns out note × IsCalm out × IsCalm note
+RunsTurns s drift turns = RunsOn s (OfTurns s drift turns)
+
+-- a run of this scene on lists, by two threads
+abbrev pub RunsThreads : SceneValue → ℕ → (out note : Change) → Result Last WorldStop → Type 0
+RunsThreads s drift = RunsOn s (OfThreads s drift)
 
 -- ---- the job
 

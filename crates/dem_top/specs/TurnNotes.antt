@@ -1,4 +1,4 @@
--- The rows that a run on lists notes.
+-- The rows that a run on lists notes, by given turns or by two threads.
 use Rattle.std.specs.Prelude.{◌≡◌, ℕ, false, List, ◌++◌}
 use Rattle.dem_model.specs.SceneValue.{SceneValue}
 use Rattle.dem_model.specs.Plain.{last_of}
@@ -30,3 +30,9 @@ pub record NotesSoFar (s : SceneValue) (drift : ℕ) (turns : List Turn) (noted 
   pub more : List Turn
   pub by_itself : GoesOnBy s drift (reached s drift turns) more
   pub text : noted ≡ rows_text (taken s drift (turns ++ more))
+
+-- the whole of what a run by two threads notes: taken rows that a run may have, and the row of the tests that they stand for
+pub record NotesLegal (s : SceneValue) (drift : ℕ) (noted : List ℕ) : Type 0 where
+  pub taken_rows : List TakenRow
+  pub legal : IsLegal s drift (last_of s) taken_rows
+  pub text : noted ≡ rows_text taken_rows ++ tests_text (tests_of taken_rows (last_of s))

@@ -3,7 +3,7 @@ use Rattle.std.specs.Prelude.{◌≡◌, ℕ, List, [], ◌++◌, ◌⊎◌, cod
 use Rattle.dem_bins.specs.Bins.{grid_of, cells_across}
 use Rattle.dem_bins.specs.declared.grid.TheConstants.{MAX_CELLS}
 use Rattle.dem_words.specs.Orders.{OrderValue}
-use Rattle.dem_top.specs.TurnNotes.{NotesWhole, NotesSoFar}
+use Rattle.dem_top.specs.TurnNotes.{NotesWhole, NotesSoFar, NotesLegal}
 use Rattle.dem_model.specs.declared.state.Turn.{Turn}
 use Rattle.dem_model.specs.SceneValue.{SceneValue}
 use Rattle.dem_model.specs.declared.fault.SceneFault.{SceneFault}
@@ -20,6 +20,8 @@ pub data Notes : Type 0 where
   Exactly : List ℕ → Notes
   -- those of a run of this scene on lists under this drift limit, with these turns first
   OfTurns : SceneValue → ℕ → List Turn → Notes
+  -- those of a run of this scene by two threads under this drift limit
+  OfThreads : SceneValue → ℕ → Notes
 
 -- no rows at all
 abbrev pub no_rows : Notes
@@ -29,11 +31,13 @@ no_rows = Exactly []
 abbrev pub MayNote : Notes → List ℕ → Type 0
 MayNote (Exactly rows) noted = noted ≡ rows
 MayNote (OfTurns s drift turns) noted = NotesWhole s drift turns noted
+MayNote (OfThreads s drift) noted = NotesLegal s drift noted
 
 -- these rows may have been noted when a job is cut short, or a prefix of them
 abbrev pub MayBegin : Notes → List ℕ → Type 0
 MayBegin (Exactly rows) noted = noted ≡ rows
 MayBegin (OfTurns s drift turns) noted = NotesSoFar s drift turns noted ⊎ NotesWhole s drift turns noted
+MayBegin (OfThreads s drift) noted = (noted ≡ []) ⊎ NotesLegal s drift noted
 
 -- what an input comes to: it is refused, with a status and a line on `note`; or a text is written, with a status and rows that may be noted
 pub data Verdict : Type 0 where
@@ -106,14 +110,26 @@ plain_verdict bytes = on_scene (run_verdict no_rows) (scene_from bytes)
 abbrev pub on_grid : ℕ → Verdict → Verdict
 on_grid cells verdict = if nat_lt MAX_CELLS cells then Refused 2 (bin_text cells) else verdict
 
--- what a run with turns notes, where it is asked to
-abbrev pub sched_notes : OrderValue → SceneValue → Notes
-sched_notes o s = if o.report then OfTurns s o.drift o.turns else no_rows
+-- these rows are noted where the order asks for them, else none
+abbrev pub where_asked : OrderValue → Notes → Notes
+where_asked o notes = if o.report then notes else no_rows
 
--- the run of a scene on lists: its grid, and then the output of the plain run
-unfoldable pub sched_of : OrderValue → SceneValue → Verdict
-sched_of o s = on_grid (cells_across s (grid_of s o.drift o.bin)) (run_verdict (sched_notes o s) s)
+-- the run of a scene on lists that may note these rows: its grid, and then the output of the plain run
+unfoldable pub lists_of : OrderValue → Notes → SceneValue → Verdict
+lists_of o notes s = on_grid (cells_across s (grid_of s o.drift o.bin)) (run_verdict (where_asked o notes) s)
 
--- the run on lists
+-- the run of a scene on lists by given turns
+abbrev pub sched_of : OrderValue → SceneValue → Verdict
+sched_of o s = lists_of o (OfTurns s o.drift o.turns) s
+
+-- the run of a scene on lists by two threads
+abbrev pub threads_of : OrderValue → SceneValue → Verdict
+threads_of o s = lists_of o (OfThreads s o.drift) s
+
+-- the run on lists by given turns
 unfoldable pub sched_verdict : OrderValue → List ℕ → Verdict
 sched_verdict o bytes = on_scene (sched_of o) (scene_from bytes)
+
+-- the run on lists by two threads
+unfoldable pub threads_verdict : OrderValue → List ℕ → Verdict
+threads_verdict o bytes = on_scene (threads_of o) (scene_from bytes)

@@ -3,18 +3,23 @@
 //! `quiet_call` does what an order asks for, over any source and sinks; `main_call` reads the words and does the same;
 //! `stream_call` is `main_call` over std's streams. Means: `Verdicts` and `Jobs`, what each input of a job comes to.
 //! Callers rest on `Answers` and `Serves`: a status that an input comes to comes with its whole text and nothing else, each
-//! other status with its cause, and with prefixes. Takes memory: all three. Not here: the words (dem_words), the runs (dem_output).
+//! other status with its cause, and with prefixes. Takes memory: all three; may wait: all but `quiet_call`. Not here: the words (dem_words), the runs (dem_output, dem_core, dem_crew).
 #![tactic(auto)]
 
 mod comparison;
 mod difference;
+mod made;
+mod made_rows;
 mod outcome;
 mod plain;
 mod reading;
 mod refusal;
+mod run;
 mod sched;
 mod status;
 mod streams;
+mod summary;
+mod threads;
 mod top;
 mod turns;
 
@@ -23,3 +28,5 @@ pub use top::{main_call, quiet_call};
 
 #[cfg(test)]
 mod tests;
+#[cfg(test)]
+mod thread_tests;

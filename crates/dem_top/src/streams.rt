@@ -8,9 +8,11 @@ ghost use Rattle.dem_top.specs.Streams.{passed, Serves};
 
 use crate::status::{OUT_OF_MEMORY, WRITE_FAILED};
 use crate::top::main_call;
-use dem_outside::{RealSink, RealSource};
+use dem_outside::{Gate, RealSink, RealSource};
 use std::alloc::Global;
 use std::io::{BufWriter, Read, Write};
+use std::sync::Wait;
+use std::thread::Threads;
 
 /// Two writers that a call is done with.
 #[derive(Drop)]
@@ -28,13 +30,13 @@ pub struct Served<W, E> {
 }
 
 /// The top call over these streams; what the buffer of the output still holds is passed on at the end, and a failure there counts as one of a put.
-pub fn stream_call<R: Read + Drop, W: Write + Drop, E: Write + Drop>(
-    alloc: Global,
-    words: &[String],
-    input: R,
-    output: W,
-    errors: E,
-) -> Served<W, E>
+pub fn stream_call<
+    H: Threads + Wait + Sync,
+    R: Read + Drop,
+    W: Write + Drop,
+    E: Write + Drop,
+    G: Gate,
+>(rt: &H, alloc: Global, words: &[String], input: R, output: W, errors: E, gate: &G) -> Served<W, E>
     ensures serves { IfSome result.writers (λ w. Serves (job_meant (words_of words.now)) (R.remaining input) (passed (W.contents output) (W.contents w.output))
         (passed (E.contents errors) (E.contents w.errors)) result.status) }
     ensures no_buffer { result.writers ≡ None → result.status ≡ 6 }
@@ -48,7 +50,7 @@ pub fn stream_call<R: Read + Drop, W: Write + Drop, E: Write + Drop>(
     let mut source = RealSource::new(input);
     let mut out = RealSink::new(buffer);
     let mut note = RealSink::new(errors);
-    let answer = main_call(alloc, words, &mut source, &mut out, &mut note);
+    let answer = main_call(rt, alloc, words, &mut source, &mut out, &mut note, gate);
     let (status, output, _rest) = pass_on(out.into_writer(), answer);
     let errors = note.into_writer();
     Served {

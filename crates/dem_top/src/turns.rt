@@ -1,12 +1,15 @@
 //! The run of a scene on lists, made by given turns and then to its end, and written while it is made.
 ghost use Rattle.std.specs.Prelude.{◌≡◌, ◌<◌};
 ghost use Rattle.dem_outside.specs.Change.{change};
+ghost use Rattle.dem_outside.specs.Faults.{Counts};
+ghost use Rattle.dem_outside.specs.Known.{PutAppends};
+ghost use Rattle.dem_model.specs.Frames.{tests_text};
 ghost use Rattle.dem_bins.specs.Bins.{IsGridOf};
 ghost use Rattle.dem_top.specs.Parts.{RunsTurns};
 
 use dem_bins::Grid;
 use dem_core::{World, WorldStop};
-use dem_frame::write_tests;
+use dem_frame::{WriteFault, write_tests};
 use dem_model::{Last, Steps, Turn};
 use dem_outside::Sink;
 use dem_shape::Shapes;
@@ -52,6 +55,14 @@ fn counted<L: Ledger, K: Sink, N: Sink>(
         world.turn(*turn, out, note, &mut tests)?;
     }
     let last = world.finish(out, note, &mut tests)?;
-    write_tests(note, world.tests_made())?;
+    write_end(note, &world)?;
     Ok(last)
+}
+
+// Writes the row of the tests of a world.
+fn write_end<N: Sink>(note: &mut N, world: &World) -> Result<(), WriteFault>
+    ensures count { Counts (N.faults note.old) (N.faults note.new) result }
+    ensures written { PutAppends (N.held note.old) (N.held note.new) result (tests_text world.now.world.course.tests) }
+{
+    write_tests(note, world.tests_made())
 }

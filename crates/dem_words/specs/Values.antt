@@ -70,7 +70,9 @@ mode_from text =
 unfoldable pub is_built : Mode → Bool
 is_built modes.Plain = true
 is_built modes.Sched = true
+is_built modes.Run = true
 is_built modes.Check = true
+is_built modes.Gen = true
 is_built mode = false
 
 -- the mode that is named, where the program has it

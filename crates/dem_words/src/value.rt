@@ -83,5 +83,8 @@ pub(crate) fn mode_from(text: &str) -> Option<Mode>
 pub(crate) fn is_built(mode: Mode) -> bool
     ensures { result ≡ is_built_of mode }
 {
-    matches!(mode, Mode::Plain | Mode::Sched | Mode::Check)
+    matches!(
+        mode,
+        Mode::Plain | Mode::Sched | Mode::Run | Mode::Check | Mode::Gen
+    )
 }

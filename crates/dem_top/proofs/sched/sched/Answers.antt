@@ -3,7 +3,7 @@ use Rattle.std.proofs.lemmas.Result.{err_from_is_err_and}
 use Rattle.dem_outside.specs.Change.{change}
 use Rattle.dem_top.specs.Verdicts.{sched_of, sched_verdict}
 use Rattle.dem_top.proofs.JobFacts.{scene-undone, scene-done}
-use Rattle.dem_top.proofs.SchedFacts.{sched-each}
+use Rattle.dem_top.proofs.ListsFacts.{sched-each}
 use Rattle.dem_top.proofs.sched.sched.Goals as goal
 
 pub returns-in_err-scene-clause-does : goal.returns-in_err-scene-clause-does

@@ -1,3 +1,6 @@
+use Rattle.dem_outside.specs.Change.{Stream, change}
+use Rattle.dem_top.specs.Parts.{idle}
+use Rattle.dem_top.proofs.SummaryFacts.{gen-does}
 use Rattle.dem_top.proofs.top.carry_out.Goals as goal
 
 pub returns-in-Plain-clause-does : goal.returns-in-Plain-clause-does
@@ -7,3 +10,10 @@ returns-in-Plain-clause-does g c =
 pub returns-in-Check-clause-does : goal.returns-in-Check-clause-does
 returns-in-Check-clause-does g c =
     rw (← c.order.view_is, c.in-Check.is) (c.compare.ensures.does (record { bytes = g.N.Sink.held c.args.note.now; faults = g.N.Sink.faults c.args.note.now }))
+
+pub returns-in-Gen-clause-does : goal.returns-in-Gen-clause-does
+returns-in-Gen-clause-does g c =
+    let source : Stream = record { bytes = g.S.Source.left c.args.source.now; faults = g.S.Source.faults c.args.source.now } in
+    let note : Stream = record { bytes = g.N.Sink.held c.args.note.now; faults = g.N.Sink.faults c.args.note.now } in
+    let out = change g.K.Sink.held g.K.Sink.faults c.args.out.now c.summarize.new.out in
+    gen-does c.args.order.now source out (idle note) c.summarize.result (rw (← c.order.view_is) c.in-Gen.is) (c.summarize.ensures note)

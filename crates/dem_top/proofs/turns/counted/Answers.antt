@@ -60,18 +60,18 @@ returns-in_err-last g c =
     (ends-cut c.args.shapes.now c.args.grid.now.drift c.args.grid.now.bin c.args.turns.now out.before out.after out_now.after note.before note.after note_now.after c.loop-turn.world c.finish.new.self stands
     c.in_err-last.field-0.0 _ _ c.in_err-last.ensures.goes_on c.in_err-last.ensures.faults)
 
-pub returns-in_err-write_tests : goal.returns-in_err-write_tests
-returns-in_err-write_tests g c =
-    let p = err_from_is_err_and c.from_residual-in_err-write_tests.result c.from_residual-in_err-write_tests.ensures.1 in
+pub returns-in_err-write_end : goal.returns-in_err-write_end
+returns-in_err-write_end g c =
+    let p = err_from_is_err_and c.from_residual-in_err-write_end.result c.from_residual-in_err-write_end.ensures.1 in
     let out = change g.K.Sink.held g.K.Sink.faults c.args.out.now c.loop-turn.out in
     let out_now = change g.K.Sink.held g.K.Sink.faults c.args.out.now c.finish.new.out in
     let note = change g.N.Sink.held g.N.Sink.faults c.args.note.now c.loop-turn.note in
     let note_now = change g.N.Sink.held g.N.Sink.faults c.args.note.now c.finish.new.note in
-    let fin = change g.N.Sink.held g.N.Sink.faults c.args.note.now c.write_tests.new.out in
+    let fin = change g.N.Sink.held g.N.Sink.faults c.args.note.now c.write_end.new.note in
     let stands = stands-all c.args.shapes.now c.args.grid.now.drift c.args.grid.now.bin c.args.turns.now c.loop-turn.turn-index out note c.loop-turn.world c.loop-turn-test.false c.loop-turn.invariant in
     rw (p.1, p.2)
     (ends-unwritten c.args.shapes.now c.args.grid.now.drift c.args.grid.now.bin c.args.turns.now out.before out.after out_now.after note.before note.after note_now.after c.loop-turn.world c.finish.new.self stands
-    c.in_ok-last.last _ _ c.in_ok-last.ensures.goes_on c.in_ok-last.ensures.faults c.tests_made.result fin.after c.tests_made.ensures c.in_err-write_tests.ensures.written c.in_err-write_tests.ensures.count)
+    c.in_ok-last.last _ _ c.in_ok-last.ensures.goes_on c.in_ok-last.ensures.faults _ fin.after refl c.in_err-write_end.ensures.written c.in_err-write_end.ensures.count)
 
 pub returns : goal.returns
 returns g c =
@@ -79,7 +79,7 @@ returns g c =
     let out_now = change g.K.Sink.held g.K.Sink.faults c.args.out.now c.finish.new.out in
     let note = change g.N.Sink.held g.N.Sink.faults c.args.note.now c.loop-turn.note in
     let note_now = change g.N.Sink.held g.N.Sink.faults c.args.note.now c.finish.new.note in
-    let fin = change g.N.Sink.held g.N.Sink.faults c.args.note.now c.write_tests.new.out in
+    let fin = change g.N.Sink.held g.N.Sink.faults c.args.note.now c.write_end.new.note in
     let stands = stands-all c.args.shapes.now c.args.grid.now.drift c.args.grid.now.bin c.args.turns.now c.loop-turn.turn-index out note c.loop-turn.world c.loop-turn-test.false c.loop-turn.invariant in
     ends-written c.args.shapes.now c.args.grid.now.drift c.args.grid.now.bin c.args.turns.now out.before out.after out_now.after note.before note.after note_now.after c.loop-turn.world c.finish.new.self stands
-    c.in_ok-last.last _ _ c.in_ok-last.ensures.goes_on c.in_ok-last.ensures.faults c.tests_made.result fin.after c.tests_made.ensures c.in_ok-write_tests.ensures.written c.in_ok-write_tests.ensures.count
+    c.in_ok-last.last _ _ c.in_ok-last.ensures.goes_on c.in_ok-last.ensures.faults _ fin.after refl c.in_ok-write_end.ensures.written c.in_ok-write_end.ensures.count

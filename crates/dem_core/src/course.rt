@@ -117,6 +117,13 @@ impl<'s> Course<'s> {
         self.last.is_none() && self.run.can_step()
     }
 
+    /// Makes ahead what the next step needs of the bodies alone. The run is as it was.
+    pub fn prepare(&mut self)
+        ensures { self.new ≡ self.old }
+    {
+        self.run.prepare();
+    }
+
     /// Makes one step on the list in use and writes what is due: the frame of the new state, and the end row where the run ends.
     /// It counts a test per pair of the list, and answers how the run has ended, if it has.
     pub fn step<K: Sink, L: Ledger>(

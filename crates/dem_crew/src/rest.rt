@@ -9,8 +9,8 @@ use std::time::Duration;
 /// How many pauses in a row only slow the processor down.
 const SPINS: u32 = 200;
 
-/// How many pauses in a row don't sleep.
-const WAKES: u32 = 300;
+/// How many pauses in a row don't sleep; those that let other threads run take some 1.5 ms where none wants to.
+const WAKES: u32 = 6200;
 
 /// How long a sleep takes at least, in microseconds.
 const NAP: u64 = 20;

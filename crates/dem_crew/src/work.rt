@@ -240,7 +240,7 @@ impl<'s> Work<'s> {
         self.lists + 1
     }
 
-    /// Makes a step, if the run may; whether it did.
+    /// Makes a step, if the run may, and else makes ahead what the next step needs; whether it made the step.
     pub fn step<K: Sink, G: Gate, L: Ledger>(
         &mut self,
         out: &mut K,
@@ -260,6 +260,7 @@ impl<'s> Work<'s> {
         ensures counted { tests.new + self.old.course.course.tests ≡ tests.old + self.new.course.course.tests }
     {
         if !self.course.can_step() {
+            self.course.prepare();
             return Ok(false);
         }
         gate.pass(Point::Step, self.course.now() as u64 + 1);

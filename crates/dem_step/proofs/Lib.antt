@@ -5,3 +5,4 @@ pub mod MetFacts
 pub mod StepFacts
 pub mod KeptFacts
 pub mod StoredFacts
+pub mod PreparedFacts

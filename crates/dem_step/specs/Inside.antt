@@ -15,8 +15,6 @@ use Rattle.dem_model.specs.declared.state.Held.{Held}
 use Rattle.dem_model.specs.declared.state.Pair.{Pair}
 use Rattle.dem_model.specs.Step.{loads_with}
 use Rattle.dem_model.specs.declared.limits.TheConstants.{MAX_DRIFT}
-use Rattle.dem_force.specs.Places.{HasPlaces}
-use Rattle.dem_force.specs.declared.pushing.spheres.Spheres.{Spheres}
 use Rattle.dem_hist.specs.Carrying.{HeldByPlace}
 use Rattle.dem_step.specs.Contacts.{AreContacts, held_by, IsHeldIn}
 use Rattle.dem_step.specs.Stepper.{IsListOfRun, state_at}
@@ -38,11 +36,9 @@ pub record IsStepper (s : SceneValue) (drift step : ℕ) (listed : Bool) (bodies
   pub near : listed ≡ true → IsListOfRun s drift contacts.list
   pub past : listed ≡ true → contacts.list.from ≤ step
 
--- the room that was made for a step: a center and a side per sphere, a load and two bodies per clump, an entry per pair of the list
-pub record HasRoom (s : SceneValue) (unpacked : List Body) (spheres : Spheres) (loads : List Load) (next : List Body) (pairs : List Pair) (fresh : List (Option Vec3)) : Type 0 where
-  pub places : HasPlaces s spheres
+-- the room that was made for a step: a load and a body per clump, an entry per pair of the list
+pub record HasRoom (s : SceneValue) (loads : List Load) (next : List Body) (pairs : List Pair) (fresh : List (Option Vec3)) : Type 0 where
   pub load_each : length loads ≡ length s.clumps
-  pub unpacked_each : length unpacked ≡ length s.clumps
   pub body_each : length next ≡ length s.clumps
   pub entry_each : length pairs ≤ length fresh
 

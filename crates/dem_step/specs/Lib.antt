@@ -2,3 +2,4 @@ pub mod Contacts
 pub mod Stepper
 pub mod Inside
 pub mod Stored
+pub mod Prepared

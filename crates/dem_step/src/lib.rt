@@ -4,12 +4,13 @@
 //! Means: `Stepper` and `Contacts` of specs, over the plain run of dem_model. Callers rest on: where `can_step` says so a
 //! step is the plain step or its end, and after an end nothing has changed; it counts as many tests as its list has pairs;
 //! the near list of a snapshot may be taken into use while `can_adopt` says so, and then each pair that touches has its
-//! displacement. Takes memory: `Dyn::new` and `Dyn::adopt`, never `Dyn::step`.
-//! Not here: which pairs are near (dem_margin), touch, law and advance (dem_force), carrying (dem_hist).
+//! displacement. It stores positions by voxel (`Stored`), and may make ahead what a step needs of the bodies (`Prepared`).
+//! Takes memory: `Dyn::new` and `Dyn::adopt`, never `Dyn::step`. Not here: which pairs are near (dem_margin), touch, law and advance (dem_force), carrying (dem_hist).
 #![tactic(auto)]
 
 mod advancing;
 mod meeting;
+mod prepared;
 mod stepper;
 mod stored;
 

@@ -24,13 +24,14 @@ ghost use Rattle.dem_step.specs.Stepper.{
 
 use crate::advancing::advance_all;
 use crate::meeting::meet_all;
+use crate::prepared::Prepared;
 use crate::stored::StoredBodies;
-use dem_force::{Spheres, no_loads};
+use dem_force::no_loads;
 use dem_hist::Contacts;
 use dem_list::PairList;
-use dem_model::{Body, End, List, Load, OutOfMemory, Steps};
+use dem_model::{Body, End, Load, OutOfMemory, Steps};
 use dem_num::Vec3;
-use dem_shape::{Shapes, Snapshot, first_bodies};
+use dem_shape::{Shapes, Snapshot};
 use dem_voxel::VoxelPos;
 use std::alloc::Global;
 use std::marker::Model;
@@ -46,8 +47,7 @@ pub struct Dyn<'s> {
     listed: bool,
     bodies: StoredBodies,
     contacts: Contacts,
-    unpacked: List<Body>,
-    spheres: Spheres,
+    prepared: Prepared,
     loads: Vec<Load>,
     next: StoredBodies,
     fresh: Vec<Option<Vec3>>,
@@ -56,12 +56,13 @@ pub struct Dyn<'s> {
 impl<'s> Model for Dyn<'s> {
     ghost use Rattle.dem_step.specs.Stepper.{Stepper, state_at};
     ghost use Rattle.dem_step.specs.Inside.{IsStepper, HasRoom, from_of};
+    ghost use Rattle.dem_step.specs.Prepared.{CanPrepare};
 
     ghost Value = { Stepper };
 
     ghost view = { λ a. record { scene = a.shapes.now; drift = a.drift; state = state_at a.shapes.now a.step; from = from_of a.listed a.contacts.list.from; contacts = a.contacts } };
 
-    ghost invariant = { λ a. IsStepper a.shapes.now a.drift a.step a.listed a.bodies a.contacts × HasRoom a.shapes.now a.unpacked a.spheres a.loads.items a.next a.contacts.list.pairs a.fresh.items };
+    ghost invariant = { λ a. IsStepper a.shapes.now a.drift a.step a.listed a.bodies a.contacts × HasRoom a.shapes.now a.loads.items a.next a.contacts.list.pairs a.fresh.items × CanPrepare a.shapes.now a.bodies a.prepared };
 }
 
 impl<'s> Dyn<'s> {
@@ -70,7 +71,7 @@ impl<'s> Dyn<'s> {
         requires { drift ≤ MAX_DRIFT }
         ensures { IfOk result (Begins shapes.now drift) }
     {
-        let scene = shapes.scene();
+        let _scene = shapes.scene();
         Ok(Dyn {
             shapes,
             drift,
@@ -78,8 +79,7 @@ impl<'s> Dyn<'s> {
             listed: false,
             bodies: StoredBodies::new(alloc, shapes)?,
             contacts: Contacts::new(alloc),
-            unpacked: first_bodies(alloc, scene)?,
-            spheres: Spheres::new(alloc, shapes)?,
+            prepared: Prepared::new(alloc, shapes)?,
             loads: no_loads(alloc, shapes)?,
             next: StoredBodies::new(alloc, shapes)?,
             fresh: Vec::new(alloc),
@@ -109,6 +109,13 @@ impl<'s> Dyn<'s> {
         }
     }
 
+    /// Makes ahead what the next step needs of the bodies alone: where all spheres are, and how they move. The run is as it was.
+    pub fn prepare(&mut self)
+        ensures { self.new ≡ self.old }
+    {
+        self.prepared.make(self.shapes, &self.bodies);
+    }
+
     /// Makes one step on the list in use, or tells the limit that it passes; then nothing has changed. It counts a test per
     /// pair of the list.
     pub fn step<L: Ledger>(&mut self, tests: &mut Steps<L>) -> Result<(), End>
@@ -116,14 +123,13 @@ impl<'s> Dyn<'s> {
         ensures step { StepsOnList self.old self.new result }
         ensures counted { tests.new ≡ tests.old + length self.old.contacts.list.pairs }
     {
-        self.bodies.unpack_into(&mut self.unpacked);
-        self.spheres.fill(self.shapes, self.unpacked.as_slice());
+        self.prepared.make(self.shapes, &self.bodies);
         meet_all(
             self.loads.as_mut_slice(),
             self.fresh.as_mut_slice(),
             self.shapes,
-            &self.spheres,
-            self.unpacked.as_slice(),
+            &self.prepared.spheres,
+            self.prepared.unpacked.as_slice(),
             &self.contacts,
             tests,
         );
@@ -131,13 +137,14 @@ impl<'s> Dyn<'s> {
             &mut self.next,
             self.shapes,
             &self.bodies,
-            self.unpacked.as_slice(),
+            self.prepared.unpacked.as_slice(),
             self.loads.as_slice(),
             self.step + 1,
         ) {
             Ok(()) => {
                 std::mem::swap(&mut self.bodies, &mut self.next);
                 self.contacts.exchange(&mut self.fresh);
+                self.prepared.ready = false;
                 self.step += 1;
                 Ok(())
             }

@@ -20,12 +20,11 @@ invariant_of-self-in-Ok c =
           (stepper-adopts c.self.inside.shapes.now c.self.inside.drift c.self.inside.step c.self.inside.listed c.self.inside.bodies c.self.inside.contacts.list c.args.list c.self.inside.contacts.entries
           c.self.invariant.0 near c.len.ensures.ascending past young),
       record {
-        places = c.self.invariant.1.places;
         load_each = c.self.invariant.1.load_each;
-        unpacked_each = c.self.invariant.1.unpacked_each;
         body_each = c.self.invariant.1.body_each;
         entry_each = omega (arith, ap (λ (h : HeldByPlace). length h.list.pairs) c.in-Ok.ensures.carried, c.len.ensures.value, c.make_room.ensures.room);
       },
+      c.self.invariant.2,
     )
 
 pub returns-in-Ok-clause-kept : goal.returns-in-Ok-clause-kept

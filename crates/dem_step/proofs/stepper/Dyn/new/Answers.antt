@@ -1,6 +1,5 @@
 use Rattle.std.proofs.Common.{length, false, refl, sym, ap, ◌∙◌, subst, arith}
 use Rattle.std.proofs.lemmas.List.{length-replicate}
-use Rattle.dem_model.specs.SceneValue.{SceneValue}
 use Rattle.dem_model.specs.Plain.{first_state}
 use Rattle.dem_model.specs.Step.{no_load}
 use Rattle.dem_hist.specs.Carrying.{HeldByPlace}
@@ -8,6 +7,7 @@ use Rattle.dem_plain.proofs.RunFacts.{plain_first}
 use Rattle.dem_step.specs.Inside.{IsStepper}
 use Rattle.dem_step.proofs.StepFacts.{state_at-is}
 use Rattle.dem_step.proofs.KeptFacts.{stepper-first, first-count}
+use Rattle.dem_step.proofs.PreparedFacts.{prepared_first}
 use Rattle.dem_step.proofs.stepper.Dyn.new.Goals as goal
 
 pub invariant_of-result : goal.invariant_of-result
@@ -15,12 +15,11 @@ invariant_of-result c = (
   subst (IsStepper c.args.shapes.now c.args.drift 0 false c.in_ok-new.field-0) (sym c.new-2.ensures)
       (stepper-first c.args.shapes.now c.args.drift c.in_ok-new.field-0 c.scene-scene.ensures.sound c.requires c.in_ok-new.ensures),
   record {
-    places = c.in_ok-new-2.ensures;
     load_each = ap length c.in_ok-no_loads.ensures ∙ length-replicate (length c.args.shapes.now.clumps) no_load;
-    unpacked_each = first-count c.args.shapes.now c.in_ok-first_bodies.field-0 (c.in_ok-first_bodies.ensures ∙ ap (λ (s : SceneValue). (first_state s).bodies) c.scene-scene.ensures.value);
     body_each = first-count c.args.shapes.now c.in_ok-new-3.field-0 c.in_ok-new-3.ensures;
     entry_each = omega (arith, ap (λ (h : HeldByPlace). length h.list.pairs) c.new-2.ensures);
   },
+  prepared_first _ _ _ c.in_ok-new-2.ensures,
 )
 
 pub returns : goal.returns

@@ -12,7 +12,6 @@ use Rattle.dem_model.specs.declared.state.State.{State}
 use Rattle.dem_model.proofs.SoundFacts.{centers_of-inside}
 use Rattle.dem_force.specs.Loads.{AreLoads}
 use Rattle.dem_hist.specs.Carrying.{HeldByPlace}
-use Rattle.dem_plain.proofs.RunFacts.{length-centers_of}
 use Rattle.dem_step.specs.Contacts.{held_by}
 use Rattle.dem_step.specs.Stepper.{Stepper, state_at}
 use Rattle.dem_step.specs.Inside.{from_of, IsStepper, HaveMet}
@@ -20,11 +19,12 @@ use Rattle.dem_step.proofs.MetFacts.{loads-met-all}
 use Rattle.dem_step.proofs.ListFacts.{kept_of-take}
 use Rattle.dem_step.proofs.StepFacts.{IsUsable, usable, about, step-made, step-ends, plain-number, next_state}
 use Rattle.dem_step.proofs.KeptFacts.{stepper-next, state-next}
+use Rattle.dem_step.proofs.PreparedFacts.{prepared_kept, prepared_past}
 use Rattle.dem_step.proofs.stepper.Dyn.step.Goals as goal
 
 pub meet_all-requires-clause-centers : goal.meet_all-requires-clause-centers
 meet_all-requires-clause-centers g c =
-    subst (AreInside c.self.inside.shapes.now) (sym (c.fill.ensures.centers ∙ ap (centers_of c.self.inside.shapes.now) (c.as_slice.ensures ∙ c.unpack_into.ensures)))
+    subst (AreInside c.self.inside.shapes.now) (sym c.make.ensures.centers_are)
     (centers_of-inside c.self.inside.shapes.now c.self.inside.bodies c.self.invariant.0.scene c.self.invariant.0.sound)
 
 pub meet_all-requires-clause-pairs : goal.meet_all-requires-clause-pairs
@@ -47,47 +47,46 @@ advance_all-requires-clause-loads g c =
     let size : length c.meet_all.new.loads ≡ c.self.inside.loads.len = omega (arith, c.meet_all.auto.loads, c.as_mut_slice.ensures.len) in
     let pairs = (usable c.self.inside.shapes.now c.self.inside.drift c.self.inside.step c.self.inside.listed c.self.inside.bodies c.self.inside.contacts c.self.invariant.0
     (subst (λ (r : Stepper). IsSomeAnd r.from (λ from. r.state.step ≤ from + r.drift)) (sym c.self.view_is) c.requires.listed)).pairs in
-    subst (AreLoads c.self.inside.shapes.now) (sym (c.as_slice-4.ensures.value ∙ with_items_is c.self.inside.loads c.meet_all.new.loads size))
-    (loads-met-all c.self.inside.shapes.now _ c.fill.new.self.centers (held_by c.self.inside.contacts) c.self.inside.contacts.list.pairs c.meet_all.new.loads c.meet_all.new.fresh pairs c.meet_all.ensures.met)
+    subst (AreLoads c.self.inside.shapes.now) (sym (c.as_slice-3.ensures.value ∙ with_items_is c.self.inside.loads c.meet_all.new.loads size))
+    (loads-met-all c.self.inside.shapes.now _ c.make.new.self.spheres.centers (held_by c.self.inside.contacts) c.self.inside.contacts.list.pairs c.meet_all.new.loads c.meet_all.new.fresh pairs c.meet_all.ensures.met)
 
 pub invariant_of-self-in-Err : goal.invariant_of-self-in-Err
 invariant_of-self-in-Err g c =
     let can : IsUsable c.self.inside.shapes.now c.self.inside.drift c.self.inside.step c.self.inside.contacts.list =
     usable c.self.inside.shapes.now c.self.inside.drift c.self.inside.step c.self.inside.listed c.self.inside.bodies c.self.inside.contacts c.self.invariant.0 (subst (λ (r : Stepper). IsSomeAnd r.from (λ from. r.state.step ≤ from + r.drift)) (sym c.self.view_is) c.requires.listed) in
-    let filled : c.fill.new.self.centers ≡ centers_of c.self.inside.shapes.now c.self.inside.bodies = c.fill.ensures.centers ∙ ap (centers_of c.self.inside.shapes.now) (c.as_slice.ensures ∙ c.unpack_into.ensures) in
-    let met : HaveMet c.self.inside.shapes.now c.self.inside.bodies c.fill.new.self.centers (held_by c.self.inside.contacts) c.self.inside.contacts.list.pairs c.meet_all.new.loads c.meet_all.new.fresh =
-    subst (λ (bs : List Body). HaveMet c.self.inside.shapes.now bs c.fill.new.self.centers (held_by c.self.inside.contacts) c.self.inside.contacts.list.pairs c.meet_all.new.loads c.meet_all.new.fresh) (c.as_slice-2.ensures ∙ c.unpack_into.ensures) c.meet_all.ensures.met in
-    let start = about c.self.inside.shapes.now c.self.inside.drift c.self.inside.step c.self.inside.listed c.self.inside.bodies c.self.inside.contacts c.fill.new.self.centers c.meet_all.new.loads c.meet_all.new.fresh c.self.invariant.0 can filled met in
+    let filled : c.make.new.self.spheres.centers ≡ centers_of c.self.inside.shapes.now c.self.inside.bodies = c.make.ensures.centers_are in
+    let met : HaveMet c.self.inside.shapes.now c.self.inside.bodies c.make.new.self.spheres.centers (held_by c.self.inside.contacts) c.self.inside.contacts.list.pairs c.meet_all.new.loads c.meet_all.new.fresh =
+    subst (λ (bs : List Body). HaveMet c.self.inside.shapes.now bs c.make.new.self.spheres.centers (held_by c.self.inside.contacts) c.self.inside.contacts.list.pairs c.meet_all.new.loads c.meet_all.new.fresh) (c.as_slice.ensures ∙ c.make.ensures.bodies_are) c.meet_all.ensures.met in
+    let start = about c.self.inside.shapes.now c.self.inside.drift c.self.inside.step c.self.inside.listed c.self.inside.bodies c.self.inside.contacts c.make.new.self.spheres.centers c.meet_all.new.loads c.meet_all.new.fresh c.self.invariant.0 can filled met in
     let size : length c.meet_all.new.loads ≡ c.self.inside.loads.len = omega (arith, c.meet_all.auto.loads, c.as_mut_slice.ensures.len) in
-    let loads : c.as_slice-4.result.now ≡ c.meet_all.new.loads = c.as_slice-4.ensures.value ∙ with_items_is c.self.inside.loads c.meet_all.new.loads size in
+    let loads : c.as_slice-3.result.now ≡ c.meet_all.new.loads = c.as_slice-3.ensures.value ∙ with_items_is c.self.inside.loads c.meet_all.new.loads size in
     let fresh_size : length c.meet_all.new.fresh ≡ c.self.inside.fresh.len = omega (arith, c.meet_all.auto.fresh, c.as_mut_slice-2.ensures.len) in
     let load_count : length c.meet_all.new.loads ≡ length c.self.inside.shapes.now.clumps = omega (arith, size, ap length c.as_mut_slice.ensures.value, c.meet_all.auto.loads, c.self.invariant.1.load_each) in
     let fresh_count : length c.self.inside.contacts.list.pairs ≤ length c.meet_all.new.fresh = omega (arith, ap length c.as_mut_slice-2.ensures.value, c.meet_all.auto.fresh, c.self.invariant.1.entry_each) in (
       c.self.invariant.0,
       record {
-        places = record { centers = ap length filled ∙ length-centers_of c.self.inside.shapes.now c.self.inside.bodies; sides = c.fill.ensures.sides.count };
         load_each = ap length (with_items_is c.self.inside.loads c.meet_all.new.loads size) ∙ load_count;
-        unpacked_each = ap length c.unpack_into.ensures ∙ c.self.invariant.0.sound.count;
         body_each = c.advance_all.ensures.room;
         entry_each = subst (λ (es : List (Option Vec3)). length c.self.inside.contacts.list.pairs ≤ length es) (sym (with_items_is c.self.inside.fresh c.meet_all.new.fresh fresh_size)) fresh_count;
       },
+      prepared_kept _ _ _ c.self.invariant.0.sound c.make.ensures,
     )
 
 pub returns-in-Err-clause-step : goal.returns-in-Err-clause-step
 returns-in-Err-clause-step g c =
     let can : IsUsable c.self.inside.shapes.now c.self.inside.drift c.self.inside.step c.self.inside.contacts.list =
     usable c.self.inside.shapes.now c.self.inside.drift c.self.inside.step c.self.inside.listed c.self.inside.bodies c.self.inside.contacts c.self.invariant.0 (subst (λ (r : Stepper). IsSomeAnd r.from (λ from. r.state.step ≤ from + r.drift)) (sym c.self.view_is) c.requires.listed) in
-    let filled : c.fill.new.self.centers ≡ centers_of c.self.inside.shapes.now c.self.inside.bodies = c.fill.ensures.centers ∙ ap (centers_of c.self.inside.shapes.now) (c.as_slice.ensures ∙ c.unpack_into.ensures) in
-    let met : HaveMet c.self.inside.shapes.now c.self.inside.bodies c.fill.new.self.centers (held_by c.self.inside.contacts) c.self.inside.contacts.list.pairs c.meet_all.new.loads c.meet_all.new.fresh =
-    subst (λ (bs : List Body). HaveMet c.self.inside.shapes.now bs c.fill.new.self.centers (held_by c.self.inside.contacts) c.self.inside.contacts.list.pairs c.meet_all.new.loads c.meet_all.new.fresh) (c.as_slice-2.ensures ∙ c.unpack_into.ensures) c.meet_all.ensures.met in
-    let start = about c.self.inside.shapes.now c.self.inside.drift c.self.inside.step c.self.inside.listed c.self.inside.bodies c.self.inside.contacts c.fill.new.self.centers c.meet_all.new.loads c.meet_all.new.fresh c.self.invariant.0 can filled met in
+    let filled : c.make.new.self.spheres.centers ≡ centers_of c.self.inside.shapes.now c.self.inside.bodies = c.make.ensures.centers_are in
+    let met : HaveMet c.self.inside.shapes.now c.self.inside.bodies c.make.new.self.spheres.centers (held_by c.self.inside.contacts) c.self.inside.contacts.list.pairs c.meet_all.new.loads c.meet_all.new.fresh =
+    subst (λ (bs : List Body). HaveMet c.self.inside.shapes.now bs c.make.new.self.spheres.centers (held_by c.self.inside.contacts) c.self.inside.contacts.list.pairs c.meet_all.new.loads c.meet_all.new.fresh) (c.as_slice.ensures ∙ c.make.ensures.bodies_are) c.meet_all.ensures.met in
+    let start = about c.self.inside.shapes.now c.self.inside.drift c.self.inside.step c.self.inside.listed c.self.inside.bodies c.self.inside.contacts c.make.new.self.spheres.centers c.meet_all.new.loads c.meet_all.new.fresh c.self.invariant.0 can filled met in
     let size : length c.meet_all.new.loads ≡ c.self.inside.loads.len = omega (arith, c.meet_all.auto.loads, c.as_mut_slice.ensures.len) in
-    let loads : c.as_slice-4.result.now ≡ c.meet_all.new.loads = c.as_slice-4.ensures.value ∙ with_items_is c.self.inside.loads c.meet_all.new.loads size in
+    let loads : c.as_slice-3.result.now ≡ c.meet_all.new.loads = c.as_slice-3.ensures.value ∙ with_items_is c.self.inside.loads c.meet_all.new.loads size in
     let ended : advanced_from c.self.inside.shapes.now (c.self.inside.step + 1) 0 c.self.inside.shapes.now.clumps c.self.inside.bodies c.meet_all.new.loads ≡ Err c.in-Err.end =
     subst (λ (ws : List Load). advanced_from c.self.inside.shapes.now (c.self.inside.step + 1) 0 c.self.inside.shapes.now.clumps c.self.inside.bodies ws ≡ Err c.in-Err.end) loads
-    (subst (λ (bs : List Body). advanced_from c.self.inside.shapes.now (c.self.inside.step + 1) 0 c.self.inside.shapes.now.clumps bs c.as_slice-4.result.now ≡ Err c.in-Err.end) (c.as_slice-3.ensures ∙ c.unpack_into.ensures) c.in-Err.ensures.ended) in (
+    (subst (λ (bs : List Body). advanced_from c.self.inside.shapes.now (c.self.inside.step + 1) 0 c.self.inside.shapes.now.clumps bs c.as_slice-3.result.now ≡ Err c.in-Err.end) (c.as_slice-2.ensures ∙ c.make.ensures.bodies_are) c.in-Err.ensures.ended) in (
       subst (λ (r : Stepper). step_of r.scene r.state ≡ Err c.in-Err.end) c.self.view_is
-          (step-ends c.self.inside.shapes.now c.self.inside.drift c.self.inside.step c.self.inside.bodies c.in-Err.end c.self.inside.contacts c.fill.new.self.centers c.meet_all.new.loads c.meet_all.new.fresh start ended),
+          (step-ends c.self.inside.shapes.now c.self.inside.drift c.self.inside.step c.self.inside.bodies c.in-Err.end c.self.inside.contacts c.make.new.self.spheres.centers c.meet_all.new.loads c.meet_all.new.fresh start ended),
       c.self.view_is,
     )
 
@@ -95,12 +94,12 @@ pub invariant_of-self : goal.invariant_of-self
 invariant_of-self g c =
     let can : IsUsable c.self.inside.shapes.now c.self.inside.drift c.self.inside.step c.self.inside.contacts.list =
     usable c.self.inside.shapes.now c.self.inside.drift c.self.inside.step c.self.inside.listed c.self.inside.bodies c.self.inside.contacts c.self.invariant.0 (subst (λ (r : Stepper). IsSomeAnd r.from (λ from. r.state.step ≤ from + r.drift)) (sym c.self.view_is) c.requires.listed) in
-    let filled : c.fill.new.self.centers ≡ centers_of c.self.inside.shapes.now c.self.inside.bodies = c.fill.ensures.centers ∙ ap (centers_of c.self.inside.shapes.now) (c.as_slice.ensures ∙ c.unpack_into.ensures) in
-    let met : HaveMet c.self.inside.shapes.now c.self.inside.bodies c.fill.new.self.centers (held_by c.self.inside.contacts) c.self.inside.contacts.list.pairs c.meet_all.new.loads c.meet_all.new.fresh =
-    subst (λ (bs : List Body). HaveMet c.self.inside.shapes.now bs c.fill.new.self.centers (held_by c.self.inside.contacts) c.self.inside.contacts.list.pairs c.meet_all.new.loads c.meet_all.new.fresh) (c.as_slice-2.ensures ∙ c.unpack_into.ensures) c.meet_all.ensures.met in
-    let start = about c.self.inside.shapes.now c.self.inside.drift c.self.inside.step c.self.inside.listed c.self.inside.bodies c.self.inside.contacts c.fill.new.self.centers c.meet_all.new.loads c.meet_all.new.fresh c.self.invariant.0 can filled met in
+    let filled : c.make.new.self.spheres.centers ≡ centers_of c.self.inside.shapes.now c.self.inside.bodies = c.make.ensures.centers_are in
+    let met : HaveMet c.self.inside.shapes.now c.self.inside.bodies c.make.new.self.spheres.centers (held_by c.self.inside.contacts) c.self.inside.contacts.list.pairs c.meet_all.new.loads c.meet_all.new.fresh =
+    subst (λ (bs : List Body). HaveMet c.self.inside.shapes.now bs c.make.new.self.spheres.centers (held_by c.self.inside.contacts) c.self.inside.contacts.list.pairs c.meet_all.new.loads c.meet_all.new.fresh) (c.as_slice.ensures ∙ c.make.ensures.bodies_are) c.meet_all.ensures.met in
+    let start = about c.self.inside.shapes.now c.self.inside.drift c.self.inside.step c.self.inside.listed c.self.inside.bodies c.self.inside.contacts c.make.new.self.spheres.centers c.meet_all.new.loads c.meet_all.new.fresh c.self.invariant.0 can filled met in
     let size : length c.meet_all.new.loads ≡ c.self.inside.loads.len = omega (arith, c.meet_all.auto.loads, c.as_mut_slice.ensures.len) in
-    let loads : c.as_slice-4.result.now ≡ c.meet_all.new.loads = c.as_slice-4.ensures.value ∙ with_items_is c.self.inside.loads c.meet_all.new.loads size in
+    let loads : c.as_slice-3.result.now ≡ c.meet_all.new.loads = c.as_slice-3.ensures.value ∙ with_items_is c.self.inside.loads c.meet_all.new.loads size in
     let fresh_size : length c.meet_all.new.fresh ≡ c.self.inside.fresh.len = omega (arith, c.meet_all.auto.fresh, c.as_mut_slice-2.ensures.len) in
     let load_count : length c.meet_all.new.loads ≡ length c.self.inside.shapes.now.clumps = omega (arith, size, ap length c.as_mut_slice.ensures.value, c.meet_all.auto.loads, c.self.invariant.1.load_each) in
     let fresh_count : length c.self.inside.contacts.list.pairs ≤ length c.meet_all.new.fresh = omega (arith, ap length c.as_mut_slice-2.ensures.value, c.meet_all.auto.fresh, c.self.invariant.1.entry_each) in
@@ -108,35 +107,34 @@ invariant_of-self g c =
     let below : c.self.inside.step < c.self.inside.shapes.now.steps = subst (λ n. n < c.self.inside.shapes.now.steps) number (subst (λ (r : Stepper). r.state.step < r.scene.steps) (sym c.self.view_is) c.requires.goes_on) in
     let advanced : advanced_from c.self.inside.shapes.now (c.self.inside.step + 1) 0 c.self.inside.shapes.now.clumps c.self.inside.bodies c.meet_all.new.loads ≡ Ok c.advance_all.new.next =
     subst (λ (ws : List Load). advanced_from c.self.inside.shapes.now (c.self.inside.step + 1) 0 c.self.inside.shapes.now.clumps c.self.inside.bodies ws ≡ Ok c.advance_all.new.next) loads
-    (subst (λ (bs : List Body). advanced_from c.self.inside.shapes.now (c.self.inside.step + 1) 0 c.self.inside.shapes.now.clumps bs c.as_slice-4.result.now ≡ Ok c.advance_all.new.next) (c.as_slice-3.ensures ∙ c.unpack_into.ensures) c.in-Ok.ensures.advanced) in
+    (subst (λ (bs : List Body). advanced_from c.self.inside.shapes.now (c.self.inside.step + 1) 0 c.self.inside.shapes.now.clumps bs c.as_slice-3.result.now ≡ Ok c.advance_all.new.next) (c.as_slice-2.ensures ∙ c.make.ensures.bodies_are) c.in-Ok.ensures.advanced) in
     let made : step_of c.self.inside.shapes.now (state_at c.self.inside.shapes.now c.self.inside.step) ≡ Ok (next_state (c.self.inside.step + 1) c.advance_all.new.next (kept_of c.self.inside.contacts.list.pairs c.meet_all.new.fresh)) =
-    step-made c.self.inside.shapes.now c.self.inside.drift c.self.inside.step c.self.inside.bodies c.advance_all.new.next c.self.inside.contacts c.fill.new.self.centers c.meet_all.new.loads c.meet_all.new.fresh start advanced in
+    step-made c.self.inside.shapes.now c.self.inside.drift c.self.inside.step c.self.inside.bodies c.advance_all.new.next c.self.inside.contacts c.make.new.self.spheres.centers c.meet_all.new.loads c.meet_all.new.fresh start advanced in
     let items = with_items_is c.self.inside.fresh c.meet_all.new.fresh fresh_size in
     let taken : c.exchange.new.self ≡ record { list = c.self.inside.contacts.list; entries = take (length c.self.inside.contacts.list.pairs) c.meet_all.new.fresh } =
     c.exchange.ensures.taken ∙ ap (λ (es : List (Option Vec3)). let h : HeldByPlace = record { list = c.self.inside.contacts.list; entries = take (length c.self.inside.contacts.list.pairs) es } in h) items in (
       subst (λ (h : HeldByPlace). IsStepper c.self.inside.shapes.now c.self.inside.drift (c.self.inside.step + 1) c.self.inside.listed c.swap.new.x h) (sym taken)
           (subst (λ (bs : List Body). IsStepper c.self.inside.shapes.now c.self.inside.drift (c.self.inside.step + 1) c.self.inside.listed bs (record { list = c.self.inside.contacts.list; entries = take (length c.self.inside.contacts.list.pairs) c.meet_all.new.fresh })) (sym c.swap.ensures.x_after)
-          (stepper-next c.self.inside.shapes.now c.self.inside.drift c.self.inside.step c.self.inside.listed c.self.inside.bodies c.advance_all.new.next c.self.inside.contacts.list c.self.inside.contacts.entries c.meet_all.new.fresh (held_by c.self.inside.contacts) c.fill.new.self.centers c.meet_all.new.loads
+          (stepper-next c.self.inside.shapes.now c.self.inside.drift c.self.inside.step c.self.inside.listed c.self.inside.bodies c.advance_all.new.next c.self.inside.contacts.list c.self.inside.contacts.entries c.meet_all.new.fresh (held_by c.self.inside.contacts) c.make.new.self.spheres.centers c.meet_all.new.loads
           c.self.invariant.0 below made c.in-Ok.ensures.sound fresh_count met)),
       record {
-        places = record { centers = ap length filled ∙ length-centers_of c.self.inside.shapes.now c.self.inside.bodies; sides = c.fill.ensures.sides.count };
         load_each = ap length (with_items_is c.self.inside.loads c.meet_all.new.loads size) ∙ load_count;
-        unpacked_each = ap length c.unpack_into.ensures ∙ c.self.invariant.0.sound.count;
         body_each = ap length c.swap.ensures.y_after ∙ c.self.invariant.0.sound.count;
         entry_each = omega (arith, ap (λ (h : HeldByPlace). length h.list.pairs) taken, ap length c.exchange.ensures.given, c.self.invariant.0.contacts_are.as_many);
       },
+      prepared_past c.self.inside.shapes.now c.self.inside.bodies _ c.make.new.self.unpacked c.make.new.self.spheres c.self.invariant.0.sound c.make.ensures,
     )
 
 pub returns-in-Ok-clause-step : goal.returns-in-Ok-clause-step
 returns-in-Ok-clause-step g c =
     let can : IsUsable c.self.inside.shapes.now c.self.inside.drift c.self.inside.step c.self.inside.contacts.list =
     usable c.self.inside.shapes.now c.self.inside.drift c.self.inside.step c.self.inside.listed c.self.inside.bodies c.self.inside.contacts c.self.invariant.0 (subst (λ (r : Stepper). IsSomeAnd r.from (λ from. r.state.step ≤ from + r.drift)) (sym c.self.view_is) c.requires.listed) in
-    let filled : c.fill.new.self.centers ≡ centers_of c.self.inside.shapes.now c.self.inside.bodies = c.fill.ensures.centers ∙ ap (centers_of c.self.inside.shapes.now) (c.as_slice.ensures ∙ c.unpack_into.ensures) in
-    let met : HaveMet c.self.inside.shapes.now c.self.inside.bodies c.fill.new.self.centers (held_by c.self.inside.contacts) c.self.inside.contacts.list.pairs c.meet_all.new.loads c.meet_all.new.fresh =
-    subst (λ (bs : List Body). HaveMet c.self.inside.shapes.now bs c.fill.new.self.centers (held_by c.self.inside.contacts) c.self.inside.contacts.list.pairs c.meet_all.new.loads c.meet_all.new.fresh) (c.as_slice-2.ensures ∙ c.unpack_into.ensures) c.meet_all.ensures.met in
-    let start = about c.self.inside.shapes.now c.self.inside.drift c.self.inside.step c.self.inside.listed c.self.inside.bodies c.self.inside.contacts c.fill.new.self.centers c.meet_all.new.loads c.meet_all.new.fresh c.self.invariant.0 can filled met in
+    let filled : c.make.new.self.spheres.centers ≡ centers_of c.self.inside.shapes.now c.self.inside.bodies = c.make.ensures.centers_are in
+    let met : HaveMet c.self.inside.shapes.now c.self.inside.bodies c.make.new.self.spheres.centers (held_by c.self.inside.contacts) c.self.inside.contacts.list.pairs c.meet_all.new.loads c.meet_all.new.fresh =
+    subst (λ (bs : List Body). HaveMet c.self.inside.shapes.now bs c.make.new.self.spheres.centers (held_by c.self.inside.contacts) c.self.inside.contacts.list.pairs c.meet_all.new.loads c.meet_all.new.fresh) (c.as_slice.ensures ∙ c.make.ensures.bodies_are) c.meet_all.ensures.met in
+    let start = about c.self.inside.shapes.now c.self.inside.drift c.self.inside.step c.self.inside.listed c.self.inside.bodies c.self.inside.contacts c.make.new.self.spheres.centers c.meet_all.new.loads c.meet_all.new.fresh c.self.invariant.0 can filled met in
     let size : length c.meet_all.new.loads ≡ c.self.inside.loads.len = omega (arith, c.meet_all.auto.loads, c.as_mut_slice.ensures.len) in
-    let loads : c.as_slice-4.result.now ≡ c.meet_all.new.loads = c.as_slice-4.ensures.value ∙ with_items_is c.self.inside.loads c.meet_all.new.loads size in
+    let loads : c.as_slice-3.result.now ≡ c.meet_all.new.loads = c.as_slice-3.ensures.value ∙ with_items_is c.self.inside.loads c.meet_all.new.loads size in
     let fresh_size : length c.meet_all.new.fresh ≡ c.self.inside.fresh.len = omega (arith, c.meet_all.auto.fresh, c.as_mut_slice-2.ensures.len) in
     let load_count : length c.meet_all.new.loads ≡ length c.self.inside.shapes.now.clumps = omega (arith, size, ap length c.as_mut_slice.ensures.value, c.meet_all.auto.loads, c.self.invariant.1.load_each) in
     let fresh_count : length c.self.inside.contacts.list.pairs ≤ length c.meet_all.new.fresh = omega (arith, ap length c.as_mut_slice-2.ensures.value, c.meet_all.auto.fresh, c.self.invariant.1.entry_each) in
@@ -144,9 +142,9 @@ returns-in-Ok-clause-step g c =
     let below : c.self.inside.step < c.self.inside.shapes.now.steps = subst (λ n. n < c.self.inside.shapes.now.steps) number (subst (λ (r : Stepper). r.state.step < r.scene.steps) (sym c.self.view_is) c.requires.goes_on) in
     let advanced : advanced_from c.self.inside.shapes.now (c.self.inside.step + 1) 0 c.self.inside.shapes.now.clumps c.self.inside.bodies c.meet_all.new.loads ≡ Ok c.advance_all.new.next =
     subst (λ (ws : List Load). advanced_from c.self.inside.shapes.now (c.self.inside.step + 1) 0 c.self.inside.shapes.now.clumps c.self.inside.bodies ws ≡ Ok c.advance_all.new.next) loads
-    (subst (λ (bs : List Body). advanced_from c.self.inside.shapes.now (c.self.inside.step + 1) 0 c.self.inside.shapes.now.clumps bs c.as_slice-4.result.now ≡ Ok c.advance_all.new.next) (c.as_slice-3.ensures ∙ c.unpack_into.ensures) c.in-Ok.ensures.advanced) in
+    (subst (λ (bs : List Body). advanced_from c.self.inside.shapes.now (c.self.inside.step + 1) 0 c.self.inside.shapes.now.clumps bs c.as_slice-3.result.now ≡ Ok c.advance_all.new.next) (c.as_slice-2.ensures ∙ c.make.ensures.bodies_are) c.in-Ok.ensures.advanced) in
     let made : step_of c.self.inside.shapes.now (state_at c.self.inside.shapes.now c.self.inside.step) ≡ Ok (next_state (c.self.inside.step + 1) c.advance_all.new.next (kept_of c.self.inside.contacts.list.pairs c.meet_all.new.fresh)) =
-    step-made c.self.inside.shapes.now c.self.inside.drift c.self.inside.step c.self.inside.bodies c.advance_all.new.next c.self.inside.contacts c.fill.new.self.centers c.meet_all.new.loads c.meet_all.new.fresh start advanced in
+    step-made c.self.inside.shapes.now c.self.inside.drift c.self.inside.step c.self.inside.bodies c.advance_all.new.next c.self.inside.contacts c.make.new.self.spheres.centers c.meet_all.new.loads c.meet_all.new.fresh start advanced in
     let items = with_items_is c.self.inside.fresh c.meet_all.new.fresh fresh_size in
     let taken : c.exchange.new.self ≡ record { list = c.self.inside.contacts.list; entries = take (length c.self.inside.contacts.list.pairs) c.meet_all.new.fresh } =
     c.exchange.ensures.taken ∙ ap (λ (es : List (Option Vec3)). let h : HeldByPlace = record { list = c.self.inside.contacts.list; entries = take (length c.self.inside.contacts.list.pairs) es } in h) items in

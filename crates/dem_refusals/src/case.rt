@@ -1,0 +1,124 @@
+//! One case: the words of a call, how its source, its sinks and its gate behave, and the text of the source.
+
+ghost use Rattle.std.specs.Prelude.{◌<◌};
+
+use crate::left::Left;
+use dem_model::{List, OutOfMemory};
+use dem_outside::{Fail, HoldGate, MemSink, MemSource, OpenGate, Point};
+use dem_top::main_call;
+use std::alloc::Global;
+use std::sync::Wait;
+use std::thread::Threads;
+
+/// The room of each sink, in bytes.
+const ROOM: u32 = 1 << 20;
+
+/// A call over memory.
+#[derive(Clone, Copy)]
+pub struct Case<'l> {
+    /// The words of the command line, one space between two.
+    pub words: &'l str,
+    /// How many bytes a read gives at most.
+    pub piece: u32,
+    /// The number of the read that fails, 0 for none.
+    pub read: u64,
+    /// The number of the put to the output that fails and takes nothing, 0 for none.
+    pub put: u64,
+    /// The same of the puts to the notes.
+    pub line: u64,
+    /// Whether a gate holds the third post for the third step, which dynamics makes itself: it waits in vain, and goes on.
+    pub held: bool,
+    /// What the source has.
+    pub text: &'l str,
+}
+
+impl<'l> Case<'l> {
+    /// The case of a line: these seven in order, a bar between two; the gate is `held` or `open`.
+    pub fn of(line: &'l str) -> Option<Case<'l>> {
+        let (words, rest) = line.split_once('|')?;
+        let (piece, rest) = number(rest)?;
+        let (read, rest) = number(rest)?;
+        let (put, rest) = number(rest)?;
+        let (line, rest) = number(rest)?;
+        let (gate, text) = rest.split_once('|')?;
+        Some(Case {
+            words,
+            piece: piece as u32,
+            read,
+            put,
+            line,
+            held: gate == "held",
+            text,
+        })
+    }
+
+    /// Makes the call.
+    pub fn call<R: Threads + Wait + Sync>(
+        &self,
+        rt: &R,
+        alloc: Global,
+    ) -> Result<Left, OutOfMemory> {
+        let words = words_of(alloc, self.words)?;
+        let mut source = source(alloc, self.text, self.piece.max(1), self.read)?;
+        let mut out = sink(alloc, self.put)?;
+        let mut note = sink(alloc, self.line)?;
+        let words = words.as_slice();
+        let status = if self.held {
+            let gate = HoldGate::meet(Point::Post, 3, Point::Step, 3);
+            main_call(rt, alloc, words, &mut source, &mut out, &mut note, &gate)
+        } else {
+            main_call(
+                rt,
+                alloc,
+                words,
+                &mut source,
+                &mut out,
+                &mut note,
+                &OpenGate,
+            )
+        };
+        Ok(Left { status, out, note })
+    }
+}
+
+// The number before the next bar, and what stands behind that.
+fn number(text: &str) -> Option<(u64, &str)> {
+    let (digits, rest) = text.split_once('|')?;
+    match digits.parse::<u64>() {
+        Ok(number) => Some((number, rest)),
+        Err(_) => None,
+    }
+}
+
+// The words of a line.
+fn words_of(alloc: Global, line: &str) -> Result<Vec<String>, OutOfMemory> {
+    let mut words = Vec::new(alloc);
+    for word in line.split(' ') {
+        let Ok(word) = String::from_str(alloc, word) else {
+            return Err(OutOfMemory);
+        };
+        if words.push(word).is_err() {
+            return Err(OutOfMemory);
+        }
+    }
+    Ok(words)
+}
+
+// A source of this text, of which this read fails.
+fn source(alloc: Global, text: &str, piece: u32, read: u64) -> Result<MemSource, OutOfMemory>
+    requires { 0 < piece }
+{
+    let Ok(bytes) = Vec::from_slice(alloc, text.as_bytes()) else {
+        return Err(OutOfMemory);
+    };
+    let mut fails = List::new(alloc);
+    fails.push(read)?;
+    Ok(MemSource::new(bytes, piece, fails))
+}
+
+// A sink of which this put fails.
+fn sink(alloc: Global, put: u64) -> Result<MemSink, OutOfMemory> {
+    let mut fails = List::new(alloc);
+    fails.push(Fail { call: put, take: 0 })?;
+    MemSink::new(alloc, ROOM, fails)
+}

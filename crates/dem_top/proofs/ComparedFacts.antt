@@ -1,6 +1,5 @@
 -- Rows compared with an output: the first difference, and what the job `check` comes to.
-use Rattle.std.proofs.Common.{◌≡◌, ◌<◌, ◌≤◌, ℕ, zero, suc, ◌+◌, Bool, true, false, List, [], ◌∷◌, ◌++◌, length, take, Option, None, Some, Result, Ok, Err, inl, refl, sym, ap, ◌∙◌, subst, ⊎_elim, length-append, append-nil, arith}
-use Rattle.std.specs.Prelude.{slice_get, option_map, if◌then◌else◌}
+use Rattle.std.proofs.Common.{◌≡◌, ◌<◌, ◌≤◌, ℕ, zero, suc, Bool, true, false, List, [], ◌∷◌, ◌++◌, length, take, Option, None, Some, Result, Ok, Err, inl, refl, sym, ap, ◌∙◌, subst, ⊎_elim, length-append, append-nil, arith}
 use Rattle.std.specs.Str.{bytes_eq}
 use Rattle.std.specs.Io.KnownBytes.{Consumes, IsAtEnd}
 use Rattle.std.proofs.KnownBytes.{Keeps-refl, Appends-nil}
@@ -26,7 +25,7 @@ use Rattle.dem_top.specs.declared.refusal.Refusal.TheVariants as refusals
 use Rattle.dem_top.specs.declared.reading.ReadFault.{ReadFault}
 use Rattle.dem_top.specs.declared.reading.ReadFault.TheVariants as reads
 use Rattle.dem_top.specs.Verdicts.{Verdict, Refused, Written, no_rows, on_scene, too_long_text}
-use Rattle.dem_top.specs.Compared.{difference_of, difference_text, by_difference, by_mark, mark_in, check_verdict, compared, verdict_text, verdict_outcome}
+use Rattle.dem_top.specs.Compared.{difference_of, difference_text, by_mark, mark_in, check_verdict, compared, verdict_text, verdict_outcome}
 use Rattle.dem_top.specs.Jobs.{ForTold, ForLeft, check_job}
 use Rattle.dem_top.specs.Answers.{Fulfils, Begins}
 use Rattle.dem_top.specs.Refusals.{outcome_status, refusal_status, refusal_text}

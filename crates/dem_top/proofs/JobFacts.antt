@@ -1,15 +1,13 @@
 -- What the parts of a job promise, put together.
-use Rattle.std.proofs.Common.{◌≡◌, ℕ, List, [], Option, Some, Result, Ok, Err, inl, inr, refl, sym, ap, ◌∙◌, subst}
+use Rattle.std.proofs.Common.{◌≡◌, ℕ, List, [], Some, Result, Ok, Err, inl, inr, refl, sym, ap, ◌∙◌, subst}
 use Rattle.std.proofs.KnownBytes.{Keeps-refl, Appends-nil}
-use Rattle.dem_outside.specs.Change.{Stream, Change, Gains, GainsPrefix}
+use Rattle.dem_outside.specs.Change.{Stream, Change, GainsPrefix}
 use Rattle.dem_outside.proofs.Prefixes.{AppendsPrefix-nil}
 use Rattle.dem_model.specs.SceneValue.{SceneValue}
 use Rattle.dem_model.specs.ReadingScene.{scene_from}
 use Rattle.dem_model.specs.ReadingFaults.{fault_text}
-use Rattle.dem_model.specs.Plain.{last_of}
 use Rattle.dem_model.specs.Output.{output_of}
 use Rattle.dem_model.specs.declared.limits.TheConstants.{MAX_TEXT}
-use Rattle.dem_model.specs.declared.fault.SceneFault.{SceneFault}
 use Rattle.dem_model.specs.declared.state.Last.{Last}
 use Rattle.dem_model.specs.declared.state.Last.TheVariants as lasts
 use Rattle.dem_output.specs.declared.running.RunFault.{RunFault}
@@ -19,12 +17,11 @@ use Rattle.dem_top.specs.declared.outcome.Outcome.{Outcome}
 use Rattle.dem_top.specs.declared.outcome.NotDone.{NotDone}
 use Rattle.dem_top.specs.declared.outcome.NotDone.TheVariants as stops
 use Rattle.dem_top.specs.declared.refusal.Refusal.TheVariants as refusals
-use Rattle.dem_top.specs.TurnNotes.{NotesSoFar}
-use Rattle.dem_top.specs.Verdicts.{Verdict, Refused, Written, Notes, Exactly, OfTurns, OfThreads, MayNote, MayBegin, MayGain, MayStart, no_rows, out_text, run_status, run_verdict, on_scene, plain_verdict, verdict_status}
-use Rattle.dem_top.specs.Jobs.{Job, ForTold, ForLeft}
+use Rattle.dem_top.specs.Verdicts.{Verdict, Refused, Written, Notes, Exactly, OfTurns, OfThreads, MayNote, MayBegin, MayGain, MayStart, no_rows, out_text, run_status, run_verdict, on_scene, plain_verdict}
+use Rattle.dem_top.specs.Jobs.{Job, ForLeft}
 use Rattle.dem_top.specs.Answers.{Fulfils, Begins}
 use Rattle.dem_top.specs.Refusals.{outcome_status, refusal_status, refusal_text}
-use Rattle.dem_top.specs.Parts.{run_stop, run_outcome, ReadsScene, Comes, Does, DoesQuietly, idle}
+use Rattle.dem_top.specs.Parts.{run_stop, run_outcome, ReadsScene, Comes, Does, idle}
 use Rattle.dem_top.proofs.LeftFacts.{ForTold-weaker, ForTold-all}
 
 -- ---- nothing written, nothing noted

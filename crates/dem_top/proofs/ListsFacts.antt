@@ -1,6 +1,5 @@
 -- What the run of a scene on lists comes to, by its grid and by whether it is to be noted.
-use Rattle.std.proofs.Common.{◌≡◌, ℕ, ◌<◌, ◌≤◌, arith, Bool, true, false, List, [], Result, Ok, Err, inl, inr, ◌⊎◌, ⊎_elim, refl, sym, ap, ◌∙◌, subst}
-use Rattle.std.specs.Prelude.{nat_lt, if◌then◌else◌}
+use Rattle.std.proofs.Common.{◌≡◌, ℕ, ◌<◌, arith, true, false, List, [], Result, Ok, Err, inl, ⊎_elim, refl, sym, ap, ◌∙◌, subst}
 use Rattle.std.proofs.lemmas.Bool.{lt-ltb, le-ltb}
 use Rattle.std.proofs.KnownBytes.{Keeps-refl, Appends-nil}
 use Rattle.dem_outside.specs.Faults.{Rose}
@@ -8,8 +7,6 @@ use Rattle.dem_outside.specs.Change.{Stream, Change, Fails}
 use Rattle.dem_outside.proofs.Prefixes.{AppendsPrefix-nil}
 use Rattle.dem_model.specs.SceneValue.{SceneValue}
 use Rattle.dem_model.specs.ReadingScene.{scene_from}
-use Rattle.dem_model.specs.Plain.{last_of}
-use Rattle.dem_model.specs.Output.{output_of}
 use Rattle.dem_model.specs.declared.state.Last.{Last}
 use Rattle.dem_model.specs.declared.state.Turn.{Turn}
 use Rattle.dem_bins.specs.Bins.{GridValue, grid_of, cells_across, IsGridOf}
@@ -18,7 +15,7 @@ use Rattle.dem_bins.specs.declared.grid.TheConstants.{MAX_CELLS}
 use Rattle.dem_core.specs.declared.did.WorldStop.{WorldStop}
 use Rattle.dem_core.specs.declared.did.WorldStop.TheVariants as worlds
 use Rattle.dem_words.specs.Orders.{OrderValue}
-use Rattle.dem_top.specs.Verdicts.{Verdict, Refused, Notes, OfTurns, OfThreads, no_rows, bin_text, on_grid, run_verdict, run_status, where_asked, lists_of, sched_of, sched_verdict, threads_of, threads_verdict, on_scene}
+use Rattle.dem_top.specs.Verdicts.{Refused, Notes, OfTurns, OfThreads, no_rows, bin_text, run_verdict, run_status, where_asked, lists_of, sched_of, sched_verdict, threads_of, threads_verdict, on_scene}
 use Rattle.dem_top.specs.Parts.{bin_stop, world_stop, run_outcome, RunsOn, RunsTurns, RunsThreads, Comes, idle}
 use Rattle.dem_top.proofs.JobFacts.{same_status}
 

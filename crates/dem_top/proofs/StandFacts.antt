@@ -1,24 +1,23 @@
 -- Where a run on lists stands after some turns: what it has written and noted, and what is left where it is cut short.
-use Rattle.std.proofs.Common.{◌<◌, ◌≤◌, ◌+◌, add-one, length, get_or, take, drop, take-append-drop, ◌≡◌, ℕ, Bool, true, false, List, [], ◌∷◌, ◌++◌, Option, Some, None, Result, Ok, Err, inl, inr, ◌⊎◌, ⊎_elim, refl, sym, ap, ◌∙◌, subst, append_assoc, append-nil}
+use Rattle.std.proofs.Common.{◌<◌, ◌≤◌, ◌+◌, add-one, length, get_or, take, drop, take-append-drop, ◌≡◌, ℕ, Bool, false, List, [], ◌∷◌, ◌++◌, Option, Some, Result, Ok, Err, inl, inr, ⊎_elim, refl, sym, ap, ◌∙◌, subst, append_assoc}
 use Rattle.std.proofs.lemmas.List.{take_all}
 use Rattle.std.proofs.Math.Seq.{take-suc}
-use Rattle.std.specs.Io.KnownBytes.{Appends, Keeps}
-use Rattle.std.proofs.KnownBytes.{Appends-nil, Appends-trans, Appends-kept}
+use Rattle.std.specs.Io.KnownBytes.{Appends}
+use Rattle.std.proofs.KnownBytes.{Appends-nil, Appends-trans}
 use Rattle.dem_outside.specs.Faults.{Rose}
-use Rattle.dem_outside.specs.Known.{AppendsPrefix, PutAppends}
-use Rattle.dem_outside.specs.Change.{Stream, Change, IsCalm, Fails, Gains, GainsPrefix}
+use Rattle.dem_outside.specs.Known.{AppendsPrefix}
+use Rattle.dem_outside.specs.Change.{Stream, Change, IsCalm, Gains, GainsPrefix}
 use Rattle.dem_outside.proofs.Prefixes.{AppendsPrefix-nil, AppendsPrefix-whole, AppendsPrefix-longer, AppendsPrefix-after, AppendsPrefix-kept}
 use Rattle.dem_model.specs.SceneValue.{SceneValue}
-use Rattle.dem_model.specs.Plain.{first_state, last_of}
+use Rattle.dem_model.specs.Plain.{last_of}
 use Rattle.dem_model.specs.Frames.{tests_text}
 use Rattle.dem_model.specs.Output.{output_of}
-use Rattle.dem_model.specs.World.{World, is_open, enabled, made, first_world, turned, turn_text, turn_rows, world_after, text_after, rows_after, rows_text, reached_text, GoesOnBy}
+use Rattle.dem_model.specs.World.{World, is_open, enabled, first_world, turned, turn_text, turn_rows, world_after, text_after, rows_after, rows_text, GoesOnBy}
 use Rattle.dem_model.specs.TakenRows.{IsLegal, tests_of}
 use Rattle.dem_model.specs.declared.state.Last.{Last}
-use Rattle.dem_model.specs.declared.state.TakenRow.{TakenRow}
 use Rattle.dem_model.specs.declared.state.Turn.{Turn}
 use Rattle.dem_core.specs.SoFar.{text_so_far, HasTaken}
-use Rattle.dem_core.specs.Worlds.{Turning, Turns, Gains as GainsBy, HasFaults, BeginsWorld, LeadTo, GainsAll, GoesOn, with_turn, with_turns}
+use Rattle.dem_core.specs.Worlds.{Turning, Turns, Gains as GainsBy, HasFaults, BeginsWorld, GainsAll, GoesOn, with_turn, with_turns}
 use Rattle.dem_core.specs.declared.did.Did.{Did}
 use Rattle.dem_core.specs.declared.did.Did.TheVariants as did
 use Rattle.dem_core.specs.declared.did.WorldStop.{WorldStop}
@@ -26,9 +25,9 @@ use Rattle.dem_core.specs.declared.did.WorldStop.TheVariants.{WriteFault, OutOfM
 use Rattle.dem_core.proofs.WorldFacts.{Kept, Kept-first, Kept-turned, so_far-first, so_far-turned, taken-first, HasTaken-turned}
 use Rattle.dem_core.proofs.SoFarFacts.{text-prefix, text-ended}
 use Rattle.dem_core.proofs.TakenFacts.{HasTaken-ended}
-use Rattle.dem_top.specs.TurnNotes.{reached, taken, NotesSoFar, NotesWhole}
-use Rattle.dem_top.specs.Verdicts.{OfTurns, MayBegin}
-use Rattle.dem_top.specs.Parts.{HasBegun, HasWritten, RunsTurns}
+use Rattle.dem_top.specs.TurnNotes.{reached, taken, NotesWhole}
+use Rattle.dem_top.specs.Verdicts.{OfTurns}
+use Rattle.dem_top.specs.Parts.{HasBegun, RunsTurns}
 use Rattle.dem_top.proofs.AnswerFacts.{between}
 use Rattle.dem_top.proofs.TurnFacts.{rows_text-append, world_after-append, world_after-one, rows_after-append, rows_after-one, kept-after, text-after, rows-after}
 

@@ -1,22 +1,19 @@
 -- What the run by two threads promises, as a run on lists.
-use Rattle.std.proofs.Common.{◌≡◌, ℕ, List, ◌++◌, Option, Result, Ok, Err, inl, inr, ◌⊎◌, ⊎_elim, refl, sym, ap, subst}
-use Rattle.std.specs.Prelude.{IfOk, OnErr}
+use Rattle.std.proofs.Common.{◌≡◌, ℕ, ◌++◌, Ok, Err, inl, inr, ⊎_elim, refl, subst}
 use Rattle.std.specs.Io.KnownBytes.{Appends}
 use Rattle.dem_outside.specs.Faults.{Rose}
 use Rattle.dem_outside.specs.Known.{AppendsPrefix}
-use Rattle.dem_outside.specs.Change.{Stream, Change, IsCalm, Fails}
+use Rattle.dem_outside.specs.Change.{Stream}
 use Rattle.dem_model.specs.SceneValue.{SceneValue}
 use Rattle.dem_model.specs.Frames.{tests_text}
 use Rattle.dem_model.specs.Output.{output_of}
 use Rattle.dem_model.specs.Plain.{last_of}
 use Rattle.dem_model.specs.TakenRows.{IsLegal, tests_of}
 use Rattle.dem_model.specs.World.{rows_text}
-use Rattle.dem_model.specs.declared.state.Last.{Last}
 use Rattle.dem_output.specs.declared.running.RunFault.{RunFault}
 use Rattle.dem_output.specs.declared.running.RunFault.TheVariants as runs
 use Rattle.dem_crew.specs.Running.{HasRun, HasNoted, HasRunFaults}
 use Rattle.dem_crew.specs.declared.ran.Ran.{Ran}
-use Rattle.dem_top.specs.TurnNotes.{NotesLegal}
 use Rattle.dem_top.specs.Verdicts.{OfThreads}
 use Rattle.dem_top.specs.Parts.{HasBegun, RunsThreads, stop_by}
 use Rattle.dem_top.proofs.AnswerFacts.{between}

@@ -1,10 +1,9 @@
 -- Turns one after another: the world that they reach, what they write, and their rows.
 use Rattle.std.proofs.Common.{◌≡◌, ℕ, List, [], ◌∷◌, ◌++◌, refl, sym, ap, ◌∙◌, append_assoc, append-nil}
-use Rattle.std.specs.List.{flat_map}
 use Rattle.std.proofs.lemmas.Grind.{flat_map-append}
 use Rattle.dem_model.specs.SceneValue.{SceneValue}
 use Rattle.dem_model.specs.Frames.{taken_text}
-use Rattle.dem_model.specs.World.{World, first_world, turned, turn_text, turn_rows, world_after, text_after, rows_after, rows_text}
+use Rattle.dem_model.specs.World.{World, turned, turn_text, turn_rows, world_after, text_after, rows_after, rows_text}
 use Rattle.dem_model.specs.declared.state.TakenRow.{TakenRow}
 use Rattle.dem_model.specs.declared.state.Turn.{Turn}
 use Rattle.dem_core.specs.SoFar.{text_so_far, HasTaken}

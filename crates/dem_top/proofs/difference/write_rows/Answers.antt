@@ -1,8 +1,7 @@
-use Rattle.std.proofs.Common.{◌++◌}
 use Rattle.std.specs.Prelude.{codes}
 use Rattle.std.proofs.lemmas.Result.{err_from_is_err_and}
 use Rattle.dem_outside.proofs.Prefixes.{AppendsPrefix-longer, PutAppends-after}
-use Rattle.dem_top.specs.Compared.{shown, differs_text}
+use Rattle.dem_top.specs.Compared.{shown}
 use Rattle.dem_top.proofs.difference.write_rows.Goals as goal
 
 pub returns-in_err-write_row-clause-written : goal.returns-in_err-write_row-clause-written

@@ -1,4 +1,3 @@
-use Rattle.std.proofs.Common.{refl}
 use Rattle.std.proofs.lemmas.Result.{err_from_is_err_and}
 use Rattle.dem_outside.specs.Change.{change}
 use Rattle.dem_top.specs.Verdicts.{threads_of, threads_verdict}

@@ -1,7 +1,6 @@
-use Rattle.std.proofs.Common.{◌≡◌, sym, ◌∙◌, ap, refl, None, Ok, Err}
+use Rattle.std.proofs.Common.{refl, None, Ok, Err}
 use Rattle.std.proofs.lemmas.Result.{err_from_is_err_and}
 use Rattle.dem_outside.specs.Change.{Change, change}
-use Rattle.dem_words.specs.Orders.{OrderValue}
 use Rattle.dem_top.specs.Verdicts.{threads_of}
 use Rattle.dem_top.proofs.JobFacts.{begins-nothing}
 use Rattle.dem_top.proofs.ListsFacts.{by-threads, scene-refused, scene-noted, scene-cut, scene-silent, scene-silent-cut, zero-calm}

@@ -1,4 +1,3 @@
-use Rattle.std.proofs.Common.{Ok, Err, refl}
 use Rattle.dem_outside.specs.Change.{change}
 use Rattle.dem_top.proofs.ThreadFacts.{threads-done, threads-stopped}
 use Rattle.dem_top.proofs.threads.counted.Goals as goal

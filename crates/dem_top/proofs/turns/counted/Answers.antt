@@ -1,7 +1,6 @@
-use Rattle.std.proofs.Common.{◌≡◌, List, ◌∷◌, [], ◌++◌, take, drop, sym, ap, ◌∙◌, subst, refl}
+use Rattle.std.proofs.Common.{ap, refl}
 use Rattle.std.proofs.lemmas.Result.{err_from_is_err_and}
 use Rattle.dem_outside.specs.Change.{change}
-use Rattle.dem_model.specs.declared.state.Turn.{Turn}
 use Rattle.dem_core.specs.Worlds.{Turning}
 use Rattle.dem_top.proofs.StandFacts.{stands-first, never-began, stands-at, cut-at, stands-all, ends-cut, ends-written, ends-unwritten}
 use Rattle.dem_top.proofs.turns.counted.Goals as goal

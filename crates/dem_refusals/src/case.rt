@@ -13,6 +13,9 @@ use std::thread::Threads;
 /// The room of each sink, in bytes.
 const ROOM: u32 = 1 << 20;
 
+/// The most bytes of a read.
+const MOST: u64 = 4096;
+
 /// A call over memory.
 #[derive(Clone, Copy)]
 pub struct Case<'l> {
@@ -43,7 +46,7 @@ impl<'l> Case<'l> {
         let (gate, text) = rest.split_once('|')?;
         Some(Case {
             words,
-            piece: piece as u32,
+            piece: piece.min(MOST) as u32,
             read,
             put,
             line,

@@ -6,7 +6,7 @@ use Rattle.std.proofs.lemmas.Bool.Decides.{Decides-eqb}
 use Rattle.std.proofs.lemmas.Slice.Eq.{slice_eq-Decides}
 use Rattle.dem_frame.specs.Records.{value_of}
 use Rattle.dem_frame.proofs.NumberFacts.{number_of-bytes, number_of-unparsed, number_of-printed, number_of-other, parsed_value}
-use Rattle.dem_frame.proofs.number.number.Goals as goal
+use Rattle.dem_frame.proofs.number.read_number.Goals as goal
 
 pub returns-in_default : goal.returns-in_default
 returns-in_default c = sym (number_of-bytes c.args.field.now c.in_default.ensures.cases.0)

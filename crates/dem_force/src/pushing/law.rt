@@ -12,7 +12,7 @@ use crate::pushing::normal::normal_force;
 use crate::pushing::push::{force_on_first, torque_on_first, torque_on_second};
 use crate::pushing::sliding::{carried, friction_bound, gripped, trial};
 use dem_model::{Law, Push, Side, Touch};
-use dem_num::{Vec3, Wide3};
+use dem_num::Vec3;
 
 /// What a contact does: the force on `a` (`b` feels the opposite), the torques on both in world axes, and the new
 /// displacement. `a` is the side that the normal pushes along it; `h0` is the stored displacement, zero where none is.
@@ -60,7 +60,7 @@ fn push_at(
     delta: u64,
     normal: u64,
     h: Vec3,
-    trial: Wide3,
+    trial: Vec3,
 ) -> Push
     requires law { IsLaw law.now }
     requires first { IsBounded a.now }
@@ -68,8 +68,8 @@ fn push_at(
     requires direction { Within (widened n) (2 ^ 30) }
     requires normal_small { normal ≤ 2 ^ 62 }
     requires held { Within (widened h) MAX_DISPLACEMENT }
-    requires trial_small { Within trial (2 ^ 62) }
-    ensures value { result ≡ push_with law.now a.now b.now n delta normal h trial }
+    requires trial_small { Within (widened trial) (2 ^ 62) }
+    ensures value { result ≡ push_with law.now a.now b.now n delta normal h (widened trial) }
     ensures size { IsSmall result }
 {
     let grip = gripped(law.kt, friction_bound(law.mu, normal), trial, h);

@@ -2,7 +2,7 @@ use Rattle.std.proofs.Common.{◌*◌, ◌^◌, ◌≤◌, arith, unsigned_abs}
 use Rattle.std.proofs.lemmas.Int.{to_z-of_z}
 use Rattle.std.proofs.lemmas.Nat.{mul-le}
 use Rattle.dem_num.proofs.Sizes.{shifted_le}
-use Rattle.dem_force.proofs.pushing.motion.component_along.Goals as goal
+use Rattle.dem_force.proofs.pushing.motion.wide_component.Goals as goal
 
 pub returns-clause-size : goal.returns-clause-size
 returns-clause-size c =

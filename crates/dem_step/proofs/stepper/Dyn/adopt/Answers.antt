@@ -23,11 +23,11 @@ invariant_of-self-in-Ok c =
       record {
         load_each = c.self.invariant.1.load_each;
         body_each = c.self.invariant.1.body_each;
-        entry_each = omega (arith, ap (λ (h : HeldByPlace). length h.list.pairs) c.in-Ok.ensures.carried, c.len.ensures.value, c.make_room.ensures.room);
+        entry_each = omega (arith, ap (λ (h : HeldByPlace). length h.list.pairs) c.in-Ok.ensures.carried, c.len.ensures.value, c.in_default.ensures.room);
       },
       c.self.invariant.2,
       marks_none c.self.inside.shapes.now c.self.inside.step _ c.carry.new.self.list.pairs c.forget.new.self c.forget.ensures.none
-          (omega (arith, ap (λ (h : HeldByPlace). length h.list.pairs) c.in-Ok.ensures.carried, c.len-2.ensures.value, c.forget.ensures.room)),
+          (omega (arith, ap (λ (h : HeldByPlace). length h.list.pairs) c.in-Ok.ensures.carried, c.len-2.ensures.value, c.in_default-forget.ensures.room)),
     )
 
 pub returns-in-Ok-clause-kept : goal.returns-in-Ok-clause-kept

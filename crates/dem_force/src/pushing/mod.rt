@@ -5,6 +5,7 @@ pub mod meeting;
 pub mod mixing;
 pub mod motion;
 pub mod normal;
+pub mod pairwise;
 pub mod push;
 pub mod side_list;
 pub mod sides;

@@ -5,3 +5,4 @@ pub mod FloorFacts
 pub mod DotFacts
 pub mod TouchFacts
 pub mod CoverFacts
+pub mod MarkFacts

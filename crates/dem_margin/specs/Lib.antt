@@ -1,1 +1,2 @@
 pub mod NearList
+pub mod Marks

@@ -9,7 +9,9 @@
 mod building;
 mod coverage;
 mod margin;
+mod marking;
 
 pub use building::{add_near, build_all, emptied};
-pub use coverage::covers;
+pub use coverage::{covers, parts};
 pub use margin::{near, reach, tested};
+pub use marking::may_touch;

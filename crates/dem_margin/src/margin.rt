@@ -27,7 +27,7 @@ pub fn reach(shapes: &Shapes, drift: u32, sphere: u32) -> u64
 
 /// How far a sphere may move in `drift` steps, in u per axis.
 #[tactic(auto, unfolding(dem_model::specs::Near::drift_of))]
-fn moved(shapes: &Shapes, drift: u32, sphere: u32) -> u64
+pub fn moved(shapes: &Shapes, drift: u32, sphere: u32) -> u64
     requires drift { drift ≤ MAX_DRIFT }
     requires sphere { sphere < sphere_count shapes.now }
     ensures value { result ≡ drift_of shapes.now drift sphere }

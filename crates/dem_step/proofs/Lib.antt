@@ -4,5 +4,6 @@ pub mod ListFacts
 pub mod MetFacts
 pub mod StepFacts
 pub mod KeptFacts
+pub mod MarkFacts
 pub mod StoredFacts
 pub mod PreparedFacts

@@ -213,7 +213,7 @@ none_there None b follows n = refl
 none_there (Some x) b follows n = let yes : b ≡ true = follows refl in absurd (cc)
 
 -- a pair that doesn't touch has no meeting
-meeting-none : (s : SceneValue) (bodies : List Body) (centers : List Vec3) (p : Pair) (h : Option Vec3) → touch_of s centers p ≡ None → meeting s bodies centers p h ≡ None
+pub meeting-none : (s : SceneValue) (bodies : List Body) (centers : List Vec3) (p : Pair) (h : Option Vec3) → touch_of s centers p ≡ None → meeting s bodies centers p h ≡ None
 unfolding meeting
 meeting-none s bodies centers p h e = rw e refl
 

@@ -1,14 +1,16 @@
 -- One more pair of the list among the meetings.
-use Rattle.std.proofs.Common.{◌≡◌, ℕ, ◌+◌, ◌<◌, List, [], ◌∷◌, ◌++◌, length, take, map, refl, sym, ap, ◌∙◌, arith, subst, Option, Some, None, replicate}
+use Rattle.std.proofs.Common.{◌≡◌, ℕ, ◌+◌, ◌<◌, false, get_or, List, [], ◌∷◌, ◌++◌, length, take, map, refl, sym, ap, ◌∙◌, arith, subst, Option, Some, None, replicate}
 use Rattle.std.specs.Prelude.{All, slice_get, slice_set}
 use Rattle.std.specs.List.{cons_option}
 use Rattle.std.specs.Option.{option_map}
 use Rattle.std.proofs.lemmas.List.{append-nil, map-append, length-take-le}
 use Rattle.std.proofs.lemmas.List.Elements.{All-push, All-nil}
-use Rattle.std.proofs.lemmas.Option.{slice_get_within}
+use Rattle.std.proofs.lemmas.Option.{slice_get_within, slice_get-get_or}
 use Rattle.dem_num.specs.declared.vector.Vec3.{Vec3}
 use Rattle.dem_model.specs.SceneValue.{SceneValue}
 use Rattle.dem_model.specs.Carry.{held_of, kept_of}
+use Rattle.dem_model.specs.Centers.{touch_of}
+use Rattle.dem_model.specs.Pairs.{pair_of}
 use Rattle.dem_model.specs.Ranges.{IsSmall}
 use Rattle.dem_model.specs.Step.{Meeting, meeting, meetings, held_at, held_in, no_load, loads_of}
 use Rattle.dem_model.specs.declared.law.Load.{Load}
@@ -19,9 +21,11 @@ use Rattle.dem_model.proofs.LoadFacts.{loads_of-push}
 use Rattle.dem_force.specs.Loads.{AreLoads}
 use Rattle.dem_plain.proofs.HoldsFacts.{meetings-push, sums-within, loads_none}
 use Rattle.dem_step.specs.Contacts.{ArePairs}
+use Rattle.dem_step.specs.Marks.{is_met, AreMarked}
+use Rattle.dem_step.specs.declared.marks.Marks.{Marks}
 use Rattle.dem_step.specs.Inside.{loads_after, displacement_of, IsSmallMeeting, HaveMet}
 use Rattle.dem_step.proofs.RoomFacts.{take-next}
-use Rattle.dem_step.proofs.ListFacts.{kept_of-set, pair_count-take, entry-held}
+use Rattle.dem_step.proofs.ListFacts.{kept_of-set, pair_count-take, entry-held, meeting-none}
 
 -- nothing has met
 pub HaveMet-none : (s : SceneValue) (bodies : List Body) (centers : List Vec3) (held : List Held) (n : ℕ) (loads : List Load) (fresh : List (Option Vec3)) →
@@ -76,6 +80,23 @@ HaveMet-more s bodies centers held ps i p h old new fresh e there is room loads 
           ∙ ap (map held_in) more;
       small = subst (λ xs. All (λ (m : Meeting). IsSmall m.push) xs) more (small-more (meetings s bodies centers held (take i ps)) (meeting s bodies centers p h) met.small small);
     }
+
+-- one more pair has met, which doesn't touch
+HaveMet-apart : (s : SceneValue) (bodies : List Body) (centers : List Vec3) (held : List Held) (ps : List Pair) (i : ℕ) (p : Pair) (loads : List Load) (fresh : List (Option Vec3)) →
+    slice_get ps i ≡ Some p → touch_of s centers p ≡ None → i < length fresh →
+    HaveMet s bodies centers held (take i ps) loads fresh → HaveMet s bodies centers held (take (i + 1) ps) loads (slice_set fresh i None)
+HaveMet-apart s bodies centers held ps i p loads fresh there apart room met =
+    let none : meeting s bodies centers p (held_at held p) ≡ None = meeting-none s bodies centers p (held_at held p) apart in
+    HaveMet-more s bodies centers held ps i p (held_at held p) loads loads fresh None there refl room
+    (ap (loads_after s loads) (sym none)) (ap displacement_of (sym none)) (subst IsSmallMeeting (sym none) tt) met
+
+-- one more pair has met, which isn't looked at
+pub HaveMet-unmet : (s : SceneValue) (bodies : List Body) (centers : List Vec3) (held : List Held) (ps : List Pair) (marks : Marks) (i : ℕ) (loads : List Load) (fresh : List (Option Vec3)) →
+    AreMarked s centers ps marks → is_met marks i ≡ false → i < length ps → i < length fresh →
+    HaveMet s bodies centers held (take i ps) loads fresh → HaveMet s bodies centers held (take (i + 1) ps) loads (slice_set fresh i None)
+HaveMet-unmet s bodies centers held ps marks i loads fresh marked unmet there room met =
+    let is : slice_get ps i ≡ Some (get_or ps i (pair_of 0 0)) = slice_get-get_or ps i (pair_of 0 0) there in
+    HaveMet-apart s bodies centers held ps i (get_or ps i (pair_of 0 0)) loads fresh is (marked i (get_or ps i (pair_of 0 0)) is unmet) room met
 
 -- the loads at any place of the list are within the bounds
 pub loads-met : (s : SceneValue) (bodies : List Body) (centers : List Vec3) (held : List Held) (ps : List Pair) (i : ℕ) (loads : List Load) (fresh : List (Option Vec3)) →

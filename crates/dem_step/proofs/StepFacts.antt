@@ -90,6 +90,8 @@ pub record IsUsable (s : SceneValue) (drift step : ℕ) (list : Pairs) : Type 0 
   pub near : IsListOfRun s drift list
   pub cover : Covers s drift (centers_of s (state_at s list.from).bodies) (centers_of s (state_at s step).bodies)
   pub pairs : ArePairs s list.pairs
+  pub past : list.from ≤ step
+  pub late : step ≤ list.from + drift
 
 pub usable : (s : SceneValue) (drift step : ℕ) (listed : Bool) (bodies : List Body) (contacts : HeldByPlace) → IsStepper s drift step listed bodies contacts →
     IsSomeAnd (from_of listed contacts.list.from) (λ from. (state_at s step).step ≤ from + drift) → IsUsable s drift step contacts.list
@@ -101,6 +103,8 @@ usable s drift step listed bodies contacts h young =
       near = h.near used.0;
       cover = list-covers s drift step contacts.list h.scene h.plain (h.near used.0) past late;
       pairs = h.contacts_are.pairs;
+      past = past;
+      late = late;
     }
 
 -- ---- the step

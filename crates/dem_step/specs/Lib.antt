@@ -3,3 +3,4 @@ pub mod Stepper
 pub mod Inside
 pub mod Stored
 pub mod Prepared
+pub mod Marks

@@ -8,8 +8,10 @@ ghost use Rattle.dem_force.specs.Loads.{AreLoads};
 ghost use Rattle.dem_force.specs.Sides.{AreSides};
 ghost use Rattle.dem_force.specs.Stored.{IsStored};
 ghost use Rattle.dem_step.specs.Contacts.{ArePairs, held_by};
+ghost use Rattle.dem_step.specs.Marks.{AreMarked};
 ghost use Rattle.dem_step.specs.Inside.{loads_after, displacement_of, IsSmallMeeting, HaveMet};
 
+use crate::marks::Marks;
 use dem_force::{Spheres, add_push, pushed};
 use dem_hist::Contacts;
 use dem_model::{Body, Load, Pair, Steps};
@@ -18,7 +20,7 @@ use dem_shape::Shapes;
 use std::sync::ledger::Ledger;
 
 /// Puts what the pairs of the list come to: into `loads` the sums per clump, into `fresh` a displacement, or None, by place.
-/// It counts a test per pair.
+/// It looks at those pairs alone that the marks leave, and counts a test per pair that it looks at.
 pub fn meet_all<L: Ledger>(
     loads: &mut [Load],
     fresh: &mut [Option<Vec3>],
@@ -26,6 +28,7 @@ pub fn meet_all<L: Ledger>(
     spheres: &Spheres,
     bodies: &[Body],
     contacts: &Contacts,
+    marks: &Marks,
     tests: &mut Steps<L>,
 )
     requires loads { length loads.old ≡ length shapes.now.clumps }
@@ -34,15 +37,21 @@ pub fn meet_all<L: Ledger>(
     requires sides { AreSides shapes.now bodies.now spheres.now.sides }
     requires pairs { ArePairs shapes.now contacts.now.list.pairs }
     requires within { All IsStored contacts.now.entries }
+    requires marks { length contacts.now.list.pairs ≤ length marks.now.may.items }
+    requires marked { AreMarked shapes.now spheres.now.centers contacts.now.list.pairs marks.now }
     ensures met { HaveMet shapes.now bodies.now spheres.now.centers (held_by contacts.now) contacts.now.list.pairs loads.new fresh.new }
     ensures room { length fresh.new ≡ length fresh.old }
-    ensures counted { tests.new ≡ tests.old + length contacts.now.list.pairs }
+    ensures counted { tests.new ≤ tests.old + length contacts.now.list.pairs }
 {
     clear(loads);
     for i in 0..contacts.list().len() {
-        let pair = contacts.list().get(i);
-        let held = contacts.held(i);
-        fresh[i as usize] = meet(loads, shapes, spheres, bodies, pair, held, tests);
+        if marks.is_met(i) {
+            let pair = contacts.list().get(i);
+            let held = contacts.held(i);
+            fresh[i as usize] = meet(loads, shapes, spheres, bodies, pair, held, tests);
+        } else {
+            fresh[i as usize] = None;
+        }
     }
 }
 

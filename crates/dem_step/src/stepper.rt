@@ -23,8 +23,10 @@ ghost use Rattle.dem_step.specs.Stepper.{
 };
 
 use crate::advancing::advance_all;
+use crate::marks::Marks;
 use crate::meeting::meet_all;
 use crate::prepared::Prepared;
+use crate::room::make_room;
 use crate::stored::StoredBodies;
 use dem_force::no_loads;
 use dem_hist::Contacts;
@@ -47,6 +49,7 @@ pub struct Dyn<'s> {
     listed: bool,
     bodies: StoredBodies,
     contacts: Contacts,
+    marks: Marks,
     prepared: Prepared,
     loads: Vec<Load>,
     next: StoredBodies,
@@ -56,13 +59,15 @@ pub struct Dyn<'s> {
 impl<'s> Model for Dyn<'s> {
     ghost use Rattle.dem_step.specs.Stepper.{Stepper, state_at};
     ghost use Rattle.dem_step.specs.Inside.{IsStepper, HasRoom, from_of};
+    ghost use Rattle.dem_step.specs.Marks.{StayMarked};
     ghost use Rattle.dem_step.specs.Prepared.{CanPrepare};
+    ghost use Rattle.std.specs.Prelude.{◌+◌};
 
     ghost Value = { Stepper };
 
     ghost view = { λ a. record { scene = a.shapes.now; drift = a.drift; state = state_at a.shapes.now a.step; from = from_of a.listed a.contacts.list.from; contacts = a.contacts } };
 
-    ghost invariant = { λ a. IsStepper a.shapes.now a.drift a.step a.listed a.bodies a.contacts × HasRoom a.shapes.now a.loads.items a.next a.contacts.list.pairs a.fresh.items × CanPrepare a.shapes.now a.bodies a.prepared };
+    ghost invariant = { λ a. IsStepper a.shapes.now a.drift a.step a.listed a.bodies a.contacts × HasRoom a.shapes.now a.loads.items a.next a.contacts.list.pairs a.fresh.items × CanPrepare a.shapes.now a.bodies a.prepared × StayMarked a.shapes.now a.step (a.contacts.list.from + a.drift) a.contacts.list.pairs a.marks };
 }
 
 impl<'s> Dyn<'s> {
@@ -79,6 +84,7 @@ impl<'s> Dyn<'s> {
             listed: false,
             bodies: StoredBodies::new(alloc, shapes)?,
             contacts: Contacts::new(alloc),
+            marks: Marks::new(alloc),
             prepared: Prepared::new(alloc, shapes)?,
             loads: no_loads(alloc, shapes)?,
             next: StoredBodies::new(alloc, shapes)?,
@@ -97,7 +103,10 @@ impl<'s> Dyn<'s> {
         ensures unchanged { OnErr result (self.new ≡ self.old) }
         ensures new_list { IfErr result (λ refused. refused.0 ≡ list) }
     {
-        if let Err(fault) = make_room(&mut self.fresh, list.len()) {
+        if let Err(fault) = make_room(&mut self.fresh, None, list.len()) {
+            return Err((list, fault));
+        }
+        if let Err(fault) = self.marks.forget(list.len()) {
             return Err((list, fault));
         }
         match self.contacts.carry(list) {
@@ -117,13 +126,20 @@ impl<'s> Dyn<'s> {
     }
 
     /// Makes one step on the list in use, or tells the limit that it passes; then nothing has changed. It counts a test per
-    /// pair of the list.
+    /// pair that it looks at: at most as many as the list has.
     pub fn step<L: Ledger>(&mut self, tests: &mut Steps<L>) -> Result<(), End>
         requires { CanStep self.old }
         ensures step { StepsOnList self.old self.new result }
-        ensures counted { tests.new ≡ tests.old + length self.old.contacts.list.pairs }
+        ensures counted { tests.new ≤ tests.old + length self.old.contacts.list.pairs }
     {
         self.prepared.make(self.shapes, &self.bodies);
+        let left = steps_left(self.contacts.list().from(), self.step, self.drift);
+        self.marks.renew(
+            self.shapes,
+            &self.prepared.spheres.centers,
+            self.contacts.list(),
+            left,
+        );
         meet_all(
             self.loads.as_mut_slice(),
             self.fresh.as_mut_slice(),
@@ -131,6 +147,7 @@ impl<'s> Dyn<'s> {
             &self.prepared.spheres,
             self.prepared.unpacked.as_slice(),
             &self.contacts,
+            &self.marks,
             tests,
         );
         match advance_all(
@@ -259,15 +276,12 @@ fn is_in_time(from: u32, now: u32, drift: u32) -> bool
     from <= now && now - from <= drift
 }
 
-/// Makes room for this many entries, and takes none away.
-fn make_room(fresh: &mut Vec<Option<Vec3>>, count: u32) -> Result<(), OutOfMemory>
-    ensures room { OnOk result (count ≤ length fresh.new.items) }
-    ensures grows { length fresh.old.items ≤ length fresh.new.items }
+/// How many steps a list may be used yet, after the one from here.
+fn steps_left(from: u32, now: u32, drift: u32) -> u32
+    requires past { from ≤ now }
+    requires young { now ≤ from + drift }
+    ensures value { now + result ≡ from + drift }
+    ensures size { result ≤ drift }
 {
-    for _ in fresh.len()..count as usize {
-        if fresh.push(None).is_err() {
-            return Err(OutOfMemory);
-        }
-    }
-    Ok(())
+    drift - (now - from)
 }

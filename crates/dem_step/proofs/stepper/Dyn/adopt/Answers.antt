@@ -6,6 +6,7 @@ use Rattle.dem_step.specs.Stepper.{Stepper, state_at, IsListOfRun}
 use Rattle.dem_step.specs.Inside.{IsStepper}
 use Rattle.dem_step.proofs.StepFacts.{plain-number}
 use Rattle.dem_step.proofs.KeptFacts.{stepper-adopts}
+use Rattle.dem_step.proofs.MarkFacts.{marks_none}
 use Rattle.dem_step.proofs.stepper.Dyn.adopt.Goals as goal
 
 pub invariant_of-self-in-Ok : goal.invariant_of-self-in-Ok
@@ -22,9 +23,11 @@ invariant_of-self-in-Ok c =
       record {
         load_each = c.self.invariant.1.load_each;
         body_each = c.self.invariant.1.body_each;
-        entry_each = omega (arith, ap (λ (h : HeldByPlace). length h.list.pairs) c.in-Ok.ensures.carried, c.len.ensures.value, c.make_room.ensures.room);
+        entry_each = omega (arith, ap (λ (h : HeldByPlace). length h.list.pairs) c.in-Ok.ensures.carried, c.len.ensures.value, c.in_default.ensures.room);
       },
       c.self.invariant.2,
+      marks_none c.self.inside.shapes.now c.self.inside.step _ c.carry.new.self.list.pairs c.forget.new.self c.forget.ensures.none
+          (omega (arith, ap (λ (h : HeldByPlace). length h.list.pairs) c.in-Ok.ensures.carried, c.len-2.ensures.value, c.in_default-forget.ensures.room)),
     )
 
 pub returns-in-Ok-clause-kept : goal.returns-in-Ok-clause-kept

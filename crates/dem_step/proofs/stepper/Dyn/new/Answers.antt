@@ -7,6 +7,7 @@ use Rattle.dem_plain.proofs.RunFacts.{plain_first}
 use Rattle.dem_step.specs.Inside.{IsStepper}
 use Rattle.dem_step.proofs.StepFacts.{state_at-is}
 use Rattle.dem_step.proofs.KeptFacts.{stepper-first, first-count}
+use Rattle.dem_step.proofs.MarkFacts.{marks_none}
 use Rattle.dem_step.proofs.PreparedFacts.{prepared_first}
 use Rattle.dem_step.proofs.stepper.Dyn.new.Goals as goal
 
@@ -20,6 +21,7 @@ invariant_of-result c = (
     entry_each = omega (arith, ap (λ (h : HeldByPlace). length h.list.pairs) c.new-2.ensures);
   },
   prepared_first _ _ _ c.in_ok-new-2.ensures,
+  marks_none c.args.shapes.now 0 _ c.new-2.result.list.pairs c.new-3.result c.new-3.ensures (omega (arith, ap (λ (h : HeldByPlace). length h.list.pairs) c.new-2.ensures)),
 )
 
 pub returns : goal.returns

@@ -12,9 +12,9 @@ ghost use Rattle.dem_force.specs.Places.{meeting_with};
 ghost use Rattle.dem_force.specs.Sides.{AreSides};
 ghost use Rattle.dem_force.specs.Stored.{IsStored};
 
+use crate::pushing::pairwise::pushed_uncounted;
 use crate::pushing::side_list::push_from;
 use crate::pushing::spheres::Spheres;
-use crate::touching::pairs::touch;
 use dem_model::{Body, Pair, Push, Steps, Touch};
 use dem_num::{Vec3, ZERO};
 use dem_shape::Shapes;
@@ -37,10 +37,8 @@ pub fn pushed<L: Ledger>(
     ensures small { IfSome result IsSmall }
     ensures counted { tests.new ≡ tests.old + 1 }
 {
-    match touch(shapes, &spheres.centers, pair, tests) {
-        Some(touch) => Some(push_at(shapes, spheres, bodies, pair, touch, held)),
-        None => None,
-    }
+    tests.tick();
+    pushed_uncounted(shapes, spheres, bodies, pair, held)
 }
 
 /// What a pair does that touches so, from what is held of it.

@@ -6,6 +6,7 @@ pub mod mixing;
 pub mod motion;
 pub mod narrow;
 pub mod normal;
+pub mod pairwise;
 pub mod push;
 pub mod side_list;
 pub mod sides;

@@ -35,7 +35,7 @@ pub fn touch<L: Ledger>(
 
 /// Whether and how a pair touches.
 #[tactic(auto, unfolding(dem_model::specs::Centers::touch_of))]
-fn pair_touch(shapes: &Shapes, centers: &Centers, pair: Pair) -> Option<Touch>
+pub fn pair_touch(shapes: &Shapes, centers: &Centers, pair: Pair) -> Option<Touch>
     requires pair { IsPair shapes.now pair }
     requires centers { AreInside shapes.now centers.now }
     ensures value { result ≡ touch_of shapes.now centers.now pair }

@@ -1,3 +1,4 @@
 pub mod Arms
+pub mod Identity
 pub mod StepLength
 pub mod StillFacts

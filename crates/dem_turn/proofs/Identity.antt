@@ -1,13 +1,14 @@
 -- Equations of polynomials over whole numbers, proved by comparing coefficients: state both sides as terms, and `refl` does the rest.
-use Rattle.std.proofs.Common.{◌≡◌, ℕ, zero, suc, ◌+◌, ◌*◌, ℤ, pos, negsuc, ◌+ℤ◌, ◌-ℤ◌, ◌*ℤ◌, unsigned_abs, Bool, true, false, List, [], ◌∷◌, ◌&&◌, ◌==◌, if◌then◌else◌, nat_le, true≢false, arith, refl, sym, ap, ap₂, ◌∙◌}
+use Rattle.std.proofs.Common.{◌≡◌, ℕ, zero, suc, ◌+◌, ◌*◌, ℤ, pos, negsuc, ◌+ℤ◌, ◌-ℤ◌, ◌*ℤ◌, neg_ℤ, unsigned_abs, Bool, true, false, List, [], ◌∷◌, ◌&&◌, ◌==◌, if◌then◌else◌, nat_le, true≢false, arith, refl, sym, ap, ap₂, ◌∙◌}
 use Rattle.std.proofs.lemmas.Int.{ints}
 use Rattle.std.proofs.lemmas.Bool.{and_parts, eqb-true}
 use borrow.Author.Differences.{up, down}
 
--- a polynomial as it is written: letters by their places, numbers, sums, differences and products
+-- a polynomial as it is written: letters by their places, numbers, opposites, sums, differences and products
 pub data Term : Type 0 where
   var : ℕ → Term
   num : ℤ → Term
+  negated : Term → Term
   plus : Term → Term → Term
   minus : Term → Term → Term
   times : Term → Term → Term
@@ -22,6 +23,7 @@ letter (x ∷ ρ) (suc i) = letter ρ i
 abbrev pub value : List ℤ → Term → ℤ
 value ρ (var i) = letter ρ i
 value ρ (num k) = k
+value ρ (negated a) = neg_ℤ (value ρ a)
 value ρ (plus a b) = value ρ a +ℤ value ρ b
 value ρ (minus a b) = value ρ a -ℤ value ρ b
 value ρ (times a b) = value ρ a *ℤ value ρ b
@@ -82,6 +84,7 @@ multiplied (more c ms s) t = join (scale c ms t) (multiplied s t)
 abbrev pub flat : Term → Sum
 flat (var i) = more (pos 1) (i ∷ []) none
 flat (num k) = more k [] none
+flat (negated a) = scale (negsuc 0) [] (flat a)
 flat (plus a b) = join (flat a) (flat b)
 flat (minus a b) = join (flat a) (scale (negsuc 0) [] (flat b))
 flat (times a b) = multiplied (flat a) (flat b)
@@ -201,12 +204,16 @@ alone a = omega (arith, ints)
 number_alone : (k : ℤ) → k ≡ k *ℤ pos 1 +ℤ pos 0
 number_alone k = omega (arith, ints)
 
+turned_over : (a : ℤ) → neg_ℤ a ≡ (negsuc 0 *ℤ pos 1) *ℤ a
+turned_over a = omega (arith, ints)
+
 less : (a b : ℤ) → a -ℤ b ≡ a +ℤ (negsuc 0 *ℤ pos 1) *ℤ b
 less a b = omega (arith, ints)
 
 flat_sound : (ρ : List ℤ) (e : Term) → value ρ e ≡ total ρ (flat e)
 flat_sound ρ (var i) = alone (letter ρ i)
 flat_sound ρ (num k) = number_alone k
+flat_sound ρ (negated a) = ap (λ z. neg_ℤ z) (flat_sound ρ a) ∙ turned_over (total ρ (flat a)) ∙ sym (total-scale ρ (negsuc 0) [] (flat a))
 flat_sound ρ (plus a b) = ap₂ (λ x y. x +ℤ y) (flat_sound ρ a) (flat_sound ρ b) ∙ sym (total-join ρ (flat a) (flat b))
 flat_sound ρ (minus a b) =
     ap₂ (λ x y. x -ℤ y) (flat_sound ρ a) (flat_sound ρ b)

@@ -1,4 +1,6 @@
 pub mod Arms
+pub mod FormTerms
 pub mod Identity
 pub mod StepLength
 pub mod StillFacts
+pub mod TurnLaws

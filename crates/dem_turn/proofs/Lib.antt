@@ -1,4 +1,5 @@
 pub mod Arms
+pub mod ExactTurn
 pub mod FormTerms
 pub mod Identity
 pub mod StepLength

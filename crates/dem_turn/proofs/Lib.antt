@@ -1,7 +1,10 @@
 pub mod Arms
 pub mod ExactTurn
+pub mod FormGaps
 pub mod FormTerms
 pub mod Identity
+pub mod Near
 pub mod StepLength
 pub mod StillFacts
+pub mod Truncation
 pub mod TurnLaws

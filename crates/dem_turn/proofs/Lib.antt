@@ -4,6 +4,7 @@ pub mod FormGaps
 pub mod FormTerms
 pub mod Identity
 pub mod Near
+pub mod OneRow
 pub mod StepLength
 pub mod StillFacts
 pub mod Truncation

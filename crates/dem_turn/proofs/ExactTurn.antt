@@ -58,7 +58,8 @@ square_z : (a : Wide3) → unsigned_abs a.z * unsigned_abs a.z ≤ norm2_of a
 unfolding norm2_of
 square_z a = omega arith
 
-step_long : (w : Wide3) → 2 ^ 62 ≤ step_norm2_of w
+-- a step is long
+pub step_long : (w : Wide3) → 2 ^ 62 ≤ step_norm2_of w
 unfolding quat_norm2_of
 step_long w = omega arith
 

@@ -1,4 +1,5 @@
 pub mod Arms
+pub mod Close
 pub mod ExactTurn
 pub mod FormGaps
 pub mod FormTerms
@@ -6,6 +7,7 @@ pub mod Identity
 pub mod Near
 pub mod OneRow
 pub mod StepLength
+pub mod StepSwing
 pub mod StillFacts
 pub mod Truncation
 pub mod TurnLaws

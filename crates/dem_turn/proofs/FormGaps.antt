@@ -88,25 +88,25 @@ pub axial-gap_le : (r m : ℕ) (a b c d e f g h : ℤ) → IsPart r m a e → Is
     → unsigned_abs (scaled_gap r m (axial a b c d) (axial e f g h)) ≤ gap_of r m e f g h
 axial-gap_le r m a b c d e f g h pa pb pc pd = rw (axial-gap r m a b c d e f g h)
     (four_parts r m (unsigned_abs e) (unsigned_abs f) (unsigned_abs g) (unsigned_abs h) (crossed r m a e a e) (crossed r m b f b f) (crossed r m c g c g) (crossed r m d h d h)
-      (crossed_le r m a e a e pa pa) (crossed_le r m b f b f pb pb) (crossed_le r m c g c g pc pc) (crossed_le r m d h d h pd pd)).1
+    (crossed_le r m a e a e pa pa) (crossed_le r m b f b f pb pb) (crossed_le r m c g c g pc pc) (crossed_le r m d h d h pd pd)).1
 
 -- how far the squared lengths are apart
 pub norm2-gap_le : (r m : ℕ) (a b c d e f g h : ℤ) → IsPart r m a e → IsPart r m b f → IsPart r m c g → IsPart r m d h
     → unsigned_abs (scaled_gap r m (a *ℤ a +ℤ b *ℤ b +ℤ c *ℤ c +ℤ d *ℤ d) (e *ℤ e +ℤ f *ℤ f +ℤ g *ℤ g +ℤ h *ℤ h)) ≤ gap_of r m e f g h
 norm2-gap_le r m a b c d e f g h pa pb pc pd = rw (norm2-gap r m a b c d e f g h)
     (four_parts r m (unsigned_abs e) (unsigned_abs f) (unsigned_abs g) (unsigned_abs h) (crossed r m a e a e) (crossed r m b f b f) (crossed r m c g c g) (crossed r m d h d h)
-      (crossed_le r m a e a e pa pa) (crossed_le r m b f b f pb pb) (crossed_le r m c g c g pc pc) (crossed_le r m d h d h pd pd)).0
+    (crossed_le r m a e a e pa pa) (crossed_le r m b f b f pb pb) (crossed_le r m c g c g pc pc) (crossed_le r m d h d h pd pd)).0
 
 -- how far the forms off the diagonal are apart, where the products are summed
 pub mixed_sum-gap_le : (r m : ℕ) (a b c d e f g h : ℤ) → IsPart r m a e → IsPart r m b f → IsPart r m c g → IsPart r m d h
     → unsigned_abs (scaled_gap r m (mixed_sum a b c d) (mixed_sum e f g h)) ≤ gap_of r m f e h g
 mixed_sum-gap_le r m a b c d e f g h pa pb pc pd = rw (mixed_sum-gap r m a b c d e f g h)
     (four_parts r m (unsigned_abs f) (unsigned_abs e) (unsigned_abs h) (unsigned_abs g) (crossed r m a e b f) (crossed r m b f a e) (crossed r m c g d h) (crossed r m d h c g)
-      (crossed_le r m a e b f pa pb) (crossed_le r m b f a e pb pa) (crossed_le r m c g d h pc pd) (crossed_le r m d h c g pd pc)).0
+    (crossed_le r m a e b f pa pb) (crossed_le r m b f a e pb pa) (crossed_le r m c g d h pc pd) (crossed_le r m d h c g pd pc)).0
 
 -- and where the second product is taken away
 pub mixed_difference-gap_le : (r m : ℕ) (a b c d e f g h : ℤ) → IsPart r m a e → IsPart r m b f → IsPart r m c g → IsPart r m d h
     → unsigned_abs (scaled_gap r m (mixed_difference a b c d) (mixed_difference e f g h)) ≤ gap_of r m f e h g
 mixed_difference-gap_le r m a b c d e f g h pa pb pc pd = rw (mixed_difference-gap r m a b c d e f g h)
     (four_parts r m (unsigned_abs f) (unsigned_abs e) (unsigned_abs h) (unsigned_abs g) (crossed r m a e b f) (crossed r m b f a e) (crossed r m c g d h) (crossed r m d h c g)
-      (crossed_le r m a e b f pa pb) (crossed_le r m b f a e pb pa) (crossed_le r m c g d h pc pd) (crossed_le r m d h c g pd pc)).1
+    (crossed_le r m a e b f pa pb) (crossed_le r m b f a e pb pa) (crossed_le r m c g d h pc pd) (crossed_le r m d h c g pd pc)).1

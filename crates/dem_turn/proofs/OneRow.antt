@@ -36,7 +36,7 @@ row-split q n p m e d h g f o = identity
     (q ∷ n ∷ p ∷ m ∷ e.x ∷ e.y ∷ e.z ∷ d.x ∷ d.y ∷ d.z ∷ h.x ∷ h.y ∷ h.z ∷ g.x ∷ g.y ∷ g.z ∷ f.x ∷ f.y ∷ f.z ∷ o.x ∷ o.y ∷ o.z ∷ [])
     (times (times (var 0) (times (var 1) (var 2))) (minus (on (var 4) (var 5) (var 6)) (on (var 7) (var 8) (var 9))))
     (plus (on (entry_term (var 4) (var 7) (var 10) (var 13) (var 16)) (entry_term (var 5) (var 8) (var 11) (var 14) (var 17)) (entry_term (var 6) (var 9) (var 12) (var 15) (var 18)))
-      (times (times (var 0) (var 3)) (minus (on (var 13) (var 14) (var 15)) (times (var 2) (on (var 16) (var 17) (var 18))))))
+    (times (times (var 0) (var 3)) (minus (on (var 13) (var 14) (var 15)) (times (var 2) (on (var 16) (var 17) (var 18))))))
     refl
 
 three_sizes : (x y z : ℤ) → unsigned_abs (x -ℤ y +ℤ z) ≤ unsigned_abs x + unsigned_abs y + unsigned_abs z
@@ -84,6 +84,6 @@ row_moves q n p spin arm e d h g f o some he hd hh ho exact =
     let split : unsigned_abs (pos k *ℤ moved) ≡ unsigned_abs ((part e.x d.x h.x g.x f.x *ℤ o.x +ℤ part e.y d.y h.y g.y f.y *ℤ o.y +ℤ part e.z d.z h.z g.z f.z *ℤ o.z) +ℤ pos (q * 2 ^ 30) *ℤ left) =
     ap unsigned_abs (row-split (pos q) (pos n) (pos p) (pos (2 ^ 30)) e d h g f o) in
     let all : unsigned_abs ((part e.x d.x h.x g.x f.x *ℤ o.x +ℤ part e.y d.y h.y g.y f.y *ℤ o.y +ℤ part e.z d.z h.z g.z f.z *ℤ o.z) +ℤ pos (q * 2 ^ 30) *ℤ left)
-        ≤ unsigned_abs (part e.x d.x h.x g.x f.x *ℤ o.x) + unsigned_abs (part e.y d.y h.y g.y f.y *ℤ o.y) + unsigned_abs (part e.z d.z h.z g.z f.z *ℤ o.z) + unsigned_abs (pos (q * 2 ^ 30) *ℤ left) =
+    ≤ unsigned_abs (part e.x d.x h.x g.x f.x *ℤ o.x) + unsigned_abs (part e.y d.y h.y g.y f.y *ℤ o.y) + unsigned_abs (part e.z d.z h.z g.z f.z *ℤ o.z) + unsigned_abs (pos (q * 2 ^ 30) *ℤ left) =
     four_sizes (part e.x d.x h.x g.x f.x *ℤ o.x) (part e.y d.y h.y g.y f.y *ℤ o.y) (part e.z d.z h.z g.z f.z *ℤ o.z) (pos (q * 2 ^ 30) *ℤ left) in
     drop_factor (unsigned_abs moved) (45 * arm + 2 * (spin * arm)) k (omega arith) some

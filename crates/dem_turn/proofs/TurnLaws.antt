@@ -69,10 +69,10 @@ stepped_long : (q : Quat) (w : Wide3) → let t = stepped_of q w in t.a *ℤ t.a
 unfolding stepped_of spun_a spun_b spun_c spun_d opposite
 stepped_long q w = identity (letters q w w)
     (quat_norm2_term
-      (stepped_a (var 10) (var 0) (var 1) (var 2) (var 3) (var 4) (var 5) (var 6))
-      (stepped_b (var 10) (var 0) (var 1) (var 2) (var 3) (var 4) (var 5) (var 6))
-      (stepped_c (var 10) (var 0) (var 1) (var 2) (var 3) (var 4) (var 5) (var 6))
-      (stepped_d (var 10) (var 0) (var 1) (var 2) (var 3) (var 4) (var 5) (var 6)))
+    (stepped_a (var 10) (var 0) (var 1) (var 2) (var 3) (var 4) (var 5) (var 6))
+    (stepped_b (var 10) (var 0) (var 1) (var 2) (var 3) (var 4) (var 5) (var 6))
+    (stepped_c (var 10) (var 0) (var 1) (var 2) (var 3) (var 4) (var 5) (var 6))
+    (stepped_d (var 10) (var 0) (var 1) (var 2) (var 3) (var 4) (var 5) (var 6)))
     (times (quat_norm2_term (var 0) (var 1) (var 2) (var 3)) (quat_norm2_term (var 10) (var 4) (var 5) (var 6)))
     refl
 

@@ -1,4 +1,4 @@
--- Clumps whose spheres all stand where the clump does: turning moves none of them.
+-- Clumps whose spheres all stand where the clump does: they leave the box where it does.
 use Rattle.std.proofs.Common.{◌≡◌, ℕ, true, false, List, get_or, arith, refl, ap, ◌∙◌, inl, inr}
 use Rattle.std.specs.Prelude.{not, All}
 use Rattle.std.specs.List.{list_any}
@@ -41,20 +41,3 @@ own_leaves s balls b h = elim (cases_Bool (in_box s (widened b.p))) [
   | inl t ↦ rw (t, none_outside s balls b (each_centered balls h) t) refl
   | inr f ↦ rw f refl
 ]
-
-over_nothing : (limit : ℕ) → is_over limit (difference_of no_vector no_vector) ≡ false
-unfolding is_over
-over_nothing limit = grind (arith, nat_tests)
-
--- such a sphere does not swing
-still : (limit : ℕ) (old new : Body) (o : Wide3) → is_zero o ≡ true → is_over limit (difference_of (turned_of new.q o) (turned_of old.q o)) ≡ false
-still limit old new o h = rw (turned_zero (matrix_of new.q) o h, turned_zero (matrix_of old.q) o h) (over_nothing limit)
-
--- none of them swings
-pub own_swings : (spin : ℕ) (balls : List Ball) (old new : Body) → list_any (λ (x : Ball). not (is_zero (widened x.at))) balls ≡ false
-    → swings spin balls old new ≡ false
-unfolding swings
-own_swings spin balls old new h =
-    let each = each_centered balls h in
-    list_any_none (λ (x : Ball). is_over (swing_limit_of spin (arm_of (widened x.at))) (difference_of (turned_of new.q (widened x.at)) (turned_of old.q (widened x.at)))) balls
-    (λ i d lt. still (swing_limit_of spin (arm_of (widened (get_or balls i d).at))) old new (widened (get_or balls i d).at) (each i d lt))

@@ -1,18 +1,16 @@
 -- Clumps whose spheres all stand where the clump does: they leave the box where it does.
-use Rattle.std.proofs.Common.{◌≡◌, ℕ, true, false, List, get_or, arith, refl, ap, ◌∙◌, inl, inr}
+use Rattle.std.proofs.Common.{◌≡◌, true, false, List, get_or, refl, ap, ◌∙◌, inl, inr}
 use Rattle.std.specs.Prelude.{not, All}
 use Rattle.std.specs.List.{list_any}
 use Rattle.std.proofs.lemmas.Bool.{cases_Bool, not-false}
-use Rattle.std.proofs.lemmas.Bool.Decides.{nat_tests}
 use Rattle.std.proofs.lemmas.List.Folds.{list_any_none}
-use Rattle.dem_num.specs.declared.vector.Wide3.{Wide3}
-use Rattle.dem_num.specs.Vectors.{widened, is_zero, no_vector, difference_of}
-use Rattle.dem_num.specs.Rotations.{matrix_of, turned_of, arm_of, swing_limit_of}
-use Rattle.dem_turn.proofs.StillFacts.{turned_zero, sum_turned_zero}
+use Rattle.dem_num.specs.Vectors.{widened, is_zero}
+use Rattle.dem_num.specs.Rotations.{matrix_of}
+use Rattle.dem_turn.proofs.StillFacts.{sum_turned_zero}
 use Rattle.dem_model.specs.SceneValue.{SceneValue}
 use Rattle.dem_model.specs.Position.{in_box}
 use Rattle.dem_model.specs.Spheres.{center_of}
-use Rattle.dem_model.specs.Advance.{is_over, leaves_box, swings}
+use Rattle.dem_model.specs.Advance.{leaves_box}
 use Rattle.dem_model.specs.declared.shape.Ball.{Ball}
 use Rattle.dem_model.specs.declared.state.Body.{Body}
 use Rattle.dem_force.proofs.LimitFacts.{none_pass}

@@ -1,5 +1,5 @@
 -- No state of a run passes the swing limit: each body keeps a quaternion of some length, by which a step turns it.
-use Rattle.std.proofs.Common.{◌≡◌, ℕ, zero, suc, ◌+◌, ◌^◌, ◌<◌, ◌≤◌, List, [], ◌∷◌, map, drop, length, get_or, Bool, true, false, Option, Some, None, Result, Ok, Err, All, IfSome, if◌then◌else◌, arith}
+use Rattle.std.proofs.Common.{ℕ, zero, suc, ◌+◌, ◌^◌, ◌≤◌, List, [], ◌∷◌, map, drop, Bool, true, false, Option, Some, None, Result, Ok, Err, All, IfSome, if◌then◌else◌, arith}
 use Rattle.std.specs.Prelude.{◌≢◌, option_and_then}
 use Rattle.std.specs.Result.{result_ok, result_err}
 use Rattle.dem_num.specs.Rotations.{quat_norm2_of}

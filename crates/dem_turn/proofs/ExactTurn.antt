@@ -1,11 +1,10 @@
 -- How far a step of spin turns a vector, before the quaternion is brought back to length one and before anything is rounded.
-use Rattle.std.proofs.Common.{◌≡◌, ℕ, ◌+◌, ◌*◌, ◌^◌, ◌≤◌, ℤ, pos, ◌+ℤ◌, ◌-ℤ◌, ◌*ℤ◌, unsigned_abs, List, [], ◌∷◌, arith, refl, ap, ◌∙◌}
+use Rattle.std.proofs.Common.{◌≡◌, ℕ, ◌*◌, ◌^◌, ◌≤◌, ℤ, pos, ◌-ℤ◌, ◌*ℤ◌, unsigned_abs, [], ◌∷◌, arith, refl, ap, ◌∙◌}
 use Rattle.std.proofs.lemmas.Nat.{mul-le}
 use Rattle.dem_num.specs.declared.vector.Wide3.{Wide3}
 use Rattle.dem_num.specs.declared.vector.Quat.{Quat}
-use Rattle.dem_num.specs.Numbers.{AtMost, opposite}
 use Rattle.dem_num.specs.Vectors.{Within, difference_of, scaled, dot_of, cross_of, norm2_of}
-use Rattle.dem_num.specs.Rotations.{quat_norm2_of, axial, mixed_sum, mixed_difference, stepped_of, spun_a, spun_b, spun_c, spun_d}
+use Rattle.dem_num.specs.Rotations.{quat_norm2_of, stepped_of}
 use Rattle.dem_num.proofs.ProductBounds.{le_from_squares}
 use Rattle.dem_num.proofs.VectorSizes.{norm2_le}
 use Rattle.dem_turn.specs.Forms.{form_x, form_y, form_z, form_turned, step_quat, step_norm2_of, swing_of}

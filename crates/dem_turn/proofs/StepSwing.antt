@@ -9,7 +9,7 @@ use Rattle.dem_num.specs.Vectors.{widened, is_zero, no_vector, Within, differenc
 use Rattle.dem_num.specs.Rotations.{quat_norm2_of, matrix_entry_of, matrix_of, turned_by, turned_of, stepped_of, unit_quat_of, turn_step_of, arm_of, swing_limit_of}
 use Rattle.dem_num.proofs.ProductBounds.{le_from_squares}
 use Rattle.dem_num.proofs.RootFacts.{root_of-is_root}
-use Rattle.dem_turn.specs.Forms.{form_x, form_y, form_z, form_turned, step_norm2_of, swing_of, RowsClose}
+use Rattle.dem_turn.specs.Forms.{form_x, form_y, form_z, form_turned, step_norm2_of, RowsClose}
 use Rattle.dem_turn.proofs.Close.{floors_swing}
 use Rattle.dem_turn.proofs.ExactTurn.{SwingSmall, exact_turn_law, exact_turn_small, step_long}
 use Rattle.dem_turn.proofs.Near.{quotient_near}

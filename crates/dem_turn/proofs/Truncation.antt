@@ -1,16 +1,15 @@
 -- A quaternion brought to length one stands for nearly the same rotation.
-use Rattle.std.proofs.Common.{◌≡◌, ℕ, ◌+◌, ◌-◌, ◌*◌, ◌^◌, ◌<◌, ◌≤◌, ℤ, pos, ◌+ℤ◌, ◌-ℤ◌, ◌*ℤ◌, unsigned_abs, List, [], ◌∷◌, arith, refl, sym, ap, subst, subst₂}
+use Rattle.std.proofs.Common.{◌≡◌, ℕ, ◌+◌, ◌-◌, ◌*◌, ◌^◌, ◌<◌, ◌≤◌, ℤ, pos, ◌+ℤ◌, ◌-ℤ◌, ◌*ℤ◌, unsigned_abs, [], ◌∷◌, arith, refl, sym, ap, subst, subst₂}
 use Rattle.std.proofs.lemmas.Int.{ints, unsigned_abs-mul}
 use Rattle.std.proofs.lemmas.Nat.{mul-le, mul-lt}
-use Rattle.dem_num.specs.declared.vector.Wide3.{Wide3}
 use Rattle.dem_num.specs.declared.vector.Quat.{Quat}
 use Rattle.dem_num.specs.Numbers.{IsRoot, root_of, square_of, quotient}
 use Rattle.dem_num.specs.Rotations.{quat_norm2_of, axial, mixed_sum, mixed_difference, unit_quat_of}
 use Rattle.dem_num.proofs.ProductBounds.{drop_factor, lt_from_squares, two_products_le}
 use Rattle.dem_num.proofs.RootFacts.{root_of-is_root, root_positive}
-use Rattle.dem_turn.specs.Forms.{apart, form_x, form_y, form_z, RowsClose, FormsClose}
+use Rattle.dem_turn.specs.Forms.{apart, FormsClose}
 use Rattle.dem_turn.proofs.Identity.{var, minus, times, identity}
-use Rattle.dem_turn.proofs.Near.{IsNear, quotient_near}
+use Rattle.dem_turn.proofs.Near.{quotient_near}
 use Rattle.dem_turn.proofs.FormGaps.{IsPart, gap_of, scaled_gap, axial-gap_le, norm2-gap_le, mixed_sum-gap_le, mixed_difference-gap_le}
 use Rattle.dem_turn.proofs.TurnLaws.{quat_norm2-is}
 

@@ -1,5 +1,5 @@
 -- What turning does, with no division: products of quaternions, lengths, and how far one step of spin moves a vector.
-use Rattle.std.proofs.Common.{◌≡◌, ℕ, ◌+◌, ◌*◌, ◌^◌, ◌≤◌, ℤ, pos, negsuc, ◌+ℤ◌, ◌-ℤ◌, ◌*ℤ◌, unsigned_abs, List, [], ◌∷◌, arith, refl, sym, ap, ap₂, ◌∙◌}
+use Rattle.std.proofs.Common.{◌≡◌, ◌+◌, ◌*◌, ◌^◌, ◌≤◌, ℤ, pos, negsuc, ◌+ℤ◌, ◌*ℤ◌, unsigned_abs, List, [], ◌∷◌, arith, refl, sym, ap, ap₂, ◌∙◌}
 use Rattle.dem_num.specs.declared.vector.Wide3.{Wide3}
 use Rattle.dem_num.specs.declared.vector.Quat.{Quat}
 use Rattle.dem_num.specs.Numbers.{square_of, opposite}

@@ -32,6 +32,21 @@ exact_turn_law q w o =
     ap (λ t. difference_of t (scaled p (form_turned q o))) (product_law q w o)
     ∙ (λ i. record { x = row_less (form_x q) g o p i; y = row_less (form_y q) g o p i; z = row_less (form_z q) g o p i })
 
+swing_norm2 : (q : Quat) (w o : Wide3) → norm2_of (form_turned q (swing_of w o)) ≡ quat_norm2_of q * quat_norm2_of q * (4 * (step_norm2_of w * norm2_of (cross_of w o)))
+swing_norm2 q w o = length_law q (swing_of w o) ∙ ap (λ n. quat_norm2_of q * quat_norm2_of q * n) (turn_law w o)
+
+-- what the step moves, turned by the quaternion, is at most this long
+pub exact_turn_le : (q : Quat) (w o : Wide3) → norm2_of (form_turned q (swing_of w o)) ≤ quat_norm2_of q * quat_norm2_of q * (4 * (step_norm2_of w * (norm2_of w * norm2_of o)))
+exact_turn_le q w o =
+    let n = quat_norm2_of q in
+    let p = step_norm2_of w in
+    let c = norm2_of (cross_of w o) in
+    let area = norm2_of w * norm2_of o in
+    let e : norm2_of (form_turned q (swing_of w o)) ≡ n * n * (4 * (p * c)) = swing_norm2 q w o in
+    let times_p : p * c ≤ p * area = mul-le p c p area (omega arith) (cross_le w o) in
+    let times_n : (n * n) * (p * c) ≤ (n * n) * (p * area) = mul-le (n * n) (p * c) (n * n) (p * area) (omega arith) times_p in
+    omega arith
+
 exact_small : (e n p c ww oo spin arm : ℕ) → e * e ≤ n * n * (4 * (p * c)) → c ≤ ww * oo → 2 ^ 62 ≤ p → ww ≤ 3 * (spin * spin) → oo ≤ arm * arm
     → 2 ^ 30 * e ≤ 2 * ((n * p) * (spin * arm))
 exact_small e n p c ww oo spin arm he hc hp hw ho =
@@ -61,9 +76,6 @@ square_z a = omega arith
 pub step_long : (w : Wide3) → 2 ^ 62 ≤ step_norm2_of w
 unfolding quat_norm2_of
 step_long w = omega arith
-
-swing_norm2 : (q : Quat) (w o : Wide3) → norm2_of (form_turned q (swing_of w o)) ≡ quat_norm2_of q * quat_norm2_of q * (4 * (step_norm2_of w * norm2_of (cross_of w o)))
-swing_norm2 q w o = length_law q (swing_of w o) ∙ ap (λ n. quat_norm2_of q * quat_norm2_of q * n) (turn_law w o)
 
 part_small : (q : Quat) (w o : Wide3) (e spin arm : ℕ) → e * e ≤ norm2_of (form_turned q (swing_of w o)) → Within w spin → norm2_of o ≤ arm * arm
     → 2 ^ 30 * e ≤ 2 * ((quat_norm2_of q * step_norm2_of w) * (spin * arm))

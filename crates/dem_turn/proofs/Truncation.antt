@@ -206,25 +206,25 @@ parts_of : (t : Quat) → 0 < root_of (quat_norm2_of t) → AreParts (root_of (q
 unfolding unit_quat_of
 parts_of t some = let r = root_of (quat_norm2_of t) in record { a = part_of r t.a some; b = part_of r t.b some; c = part_of r t.c some; d = part_of r t.d some }
 
+-- what is known of a quaternion of some length, brought to length one
+unit_ratio : (t : Quat) → 0 < quat_norm2_of t → IsRatio (root_of (quat_norm2_of t)) (sizes t.a t.b t.c t.d) (quat_norm2_of (unit_quat_of t)) (quat_norm2_of t)
+unit_ratio t h =
+    let r = root_of (quat_norm2_of t) in
+    let some : 0 < r = root_positive (quat_norm2_of t) h in
+    let root : IsRoot (quat_norm2_of t) r = root_of-is_root (quat_norm2_of t) in
+    ratio_of r (sizes t.a t.b t.c t.d) (quat_norm2_of (unit_quat_of t)) (quat_norm2_of t) some root
+    (four_sizes (unsigned_abs t.a) (unsigned_abs t.b) (unsigned_abs t.c) (unsigned_abs t.d) r (quat_norm2_of t) (sym (squares_sum t)) root.next_gt)
+    (norm2_gap r (unit_quat_of t) t (parts_of t some))
+
 -- a quaternion of some length, brought to length one, stands for nearly the same rotation
 pub truncation_law : (t : Quat) → 0 < quat_norm2_of t → FormsClose (unit_quat_of t) t
 truncation_law t h =
-    let r = root_of (quat_norm2_of t) in
-    let s = sizes t.a t.b t.c t.d in
-    let some : 0 < r = root_positive (quat_norm2_of t) h in
-    let root : IsRoot (quat_norm2_of t) r = root_of-is_root (quat_norm2_of t) in
-    let parts = parts_of t some in
-    let small : s ≤ 2 * r + 1 = four_sizes (unsigned_abs t.a) (unsigned_abs t.b) (unsigned_abs t.c) (unsigned_abs t.d) r (quat_norm2_of t) (sym (squares_sum t)) root.next_gt in
-    forms_close r s (unit_quat_of t) t (ratio_of r s (quat_norm2_of (unit_quat_of t)) (quat_norm2_of t) some root small (norm2_gap r (unit_quat_of t) t parts)) parts refl (squares_sum t)
+    forms_close (root_of (quat_norm2_of t)) (sizes t.a t.b t.c t.d) (unit_quat_of t) t (unit_ratio t h) (parts_of t (root_positive (quat_norm2_of t) h)) refl (squares_sum t)
 
--- a quaternion of some length, brought to length one, has some length
+-- a quaternion of some length, brought to length one, has nearly that length
+pub unit_long : (t : Quat) → 0 < quat_norm2_of t → 2 ^ 60 ≤ quat_norm2_of (unit_quat_of t) + 3 * 2 ^ 31
+unit_long t h = (unit_ratio t h).long
+
+-- and so some
 pub unit_some : (t : Quat) → 0 < quat_norm2_of t → 0 < quat_norm2_of (unit_quat_of t)
-unit_some t h =
-    let r = root_of (quat_norm2_of t) in
-    let s = sizes t.a t.b t.c t.d in
-    let some : 0 < r = root_positive (quat_norm2_of t) h in
-    let root : IsRoot (quat_norm2_of t) r = root_of-is_root (quat_norm2_of t) in
-    let small : s ≤ 2 * r + 1 = four_sizes (unsigned_abs t.a) (unsigned_abs t.b) (unsigned_abs t.c) (unsigned_abs t.d) r (quat_norm2_of t) (sym (squares_sum t)) root.next_gt in
-    let ratio = ratio_of r s (quat_norm2_of (unit_quat_of t)) (quat_norm2_of t) some root small (norm2_gap r (unit_quat_of t) t (parts_of t some)) in
-    let long : 2 ^ 60 ≤ quat_norm2_of (unit_quat_of t) + 3 * 2 ^ 31 = ratio.long in
-    omega arith
+unit_some t h = let long : 2 ^ 60 ≤ quat_norm2_of (unit_quat_of t) + 3 * 2 ^ 31 = unit_long t h in omega arith

@@ -3,7 +3,7 @@ use Rattle.std.proofs.Common.{◌≡◌, ◌+◌, ◌*◌, ◌^◌, ◌≤◌, �
 use Rattle.dem_num.specs.declared.vector.Wide3.{Wide3}
 use Rattle.dem_num.specs.declared.vector.Quat.{Quat}
 use Rattle.dem_num.specs.Numbers.{square_of, opposite}
-use Rattle.dem_num.specs.Vectors.{difference_of, scaled, dot_of, cross_of, turn_product, norm2_of}
+use Rattle.dem_num.specs.Vectors.{sum_of, difference_of, scaled, dot_of, cross_of, turn_product, norm2_of}
 use Rattle.dem_num.specs.Rotations.{quat_norm2_of, axial, mixed_sum, mixed_difference, stepped_of, spun_a, spun_b, spun_c, spun_d}
 use Rattle.dem_turn.specs.Forms.{form_x, form_y, form_z, form_turned, step_quat, step_norm2_of, swing_of}
 use Rattle.dem_turn.proofs.Identity.{Term, var, num, plus, minus, times, identity}
@@ -119,6 +119,44 @@ moved_long : (w o : Wide3) (p : ℤ) → p ≡ step_square w → let e = moved_b
     e.x *ℤ e.x +ℤ e.y *ℤ e.y +ℤ e.z *ℤ e.z ≡ pos 4 *ℤ (p *ℤ (c.x *ℤ c.x +ℤ c.y *ℤ c.y +ℤ c.z *ℤ c.z))
 unfolding dot_of axial mixed_sum mixed_difference turn_product
 moved_long w o p e = rw e (identity (letters (step_quat w) w o) (on_moved norm2_term) (times (num (pos 4)) (times (quat_norm2_term (var 10) (var 4) (var 5) (var 6)) (on_cross norm2_term))) refl)
+
+-- the parts along the axes of the cross product of spin and vector, as terms
+abbrev cross_x : Term
+cross_x = turn_term (var 5) (var 9) (var 6) (var 8)
+
+abbrev cross_y : Term
+cross_y = turn_term (var 6) (var 7) (var 4) (var 9)
+
+abbrev cross_z : Term
+cross_z = turn_term (var 4) (var 8) (var 5) (var 7)
+
+-- 2^32 times the one, and twice the other
+abbrev parts_term : Term → Term → Term
+parts_term once again = plus (times (num (pos (2 ^ 32))) once) (times (num (pos 2)) again)
+
+-- what a step moves a component by, with the step's length as a number
+abbrev moved_number : (Term → Term → Term → Term → Term → Term → Term → Term) → Term → Term
+moved_number row own =
+    minus (row (num (pos (2 ^ 31))) (var 4) (var 5) (var 6) (var 7) (var 8) (var 9)) (times (quat_norm2_term (num (pos (2 ^ 31))) (var 4) (var 5) (var 6)) own)
+
+moved-x : (w o : Wide3) (p : ℤ) → p ≡ step_square w → (moved_by p w o).x ≡ pos (2 ^ 32) *ℤ (cross_of w o).x +ℤ pos 2 *ℤ (cross_of w (cross_of w o)).x
+unfolding dot_of axial mixed_sum mixed_difference turn_product
+moved-x w o p e = rw e (identity (letters (step_quat w) w o) (moved_number x_term (var 7)) (parts_term cross_x (turn_term (var 5) cross_z (var 6) cross_y)) refl)
+
+moved-y : (w o : Wide3) (p : ℤ) → p ≡ step_square w → (moved_by p w o).y ≡ pos (2 ^ 32) *ℤ (cross_of w o).y +ℤ pos 2 *ℤ (cross_of w (cross_of w o)).y
+unfolding dot_of axial mixed_sum mixed_difference turn_product
+moved-y w o p e = rw e (identity (letters (step_quat w) w o) (moved_number y_term (var 8)) (parts_term cross_y (turn_term (var 6) cross_x (var 4) cross_z)) refl)
+
+moved-z : (w o : Wide3) (p : ℤ) → p ≡ step_square w → (moved_by p w o).z ≡ pos (2 ^ 32) *ℤ (cross_of w o).z +ℤ pos 2 *ℤ (cross_of w (cross_of w o)).z
+unfolding dot_of axial mixed_sum mixed_difference turn_product
+moved-z w o p e = rw e (identity (letters (step_quat w) w o) (moved_number z_term (var 9)) (parts_term cross_z (turn_term (var 4) cross_y (var 5) cross_x)) refl)
+
+-- what one step of spin moves a vector by
+pub swing_parts : (w o : Wide3) → swing_of w o ≡ sum_of (scaled (pos (2 ^ 32)) (cross_of w o)) (scaled (pos 2) (cross_of w (cross_of w o)))
+swing_parts w o =
+    let p = pos (step_norm2_of w) in
+    let e : p ≡ step_square w = quat_norm2-is (step_quat w) in
+    λ i. record { x = moved-x w o p e i; y = moved-y w o p e i; z = moved-z w o p e i }
 
 -- how far one step of spin moves a vector: twice the step's length times the cross product, squared
 pub turn_law : (w o : Wide3) → norm2_of (swing_of w o) ≡ 4 * (step_norm2_of w * norm2_of (cross_of w o))

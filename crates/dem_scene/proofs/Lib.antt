@@ -6,3 +6,5 @@ pub mod TableFacts
 pub mod PlaceFacts
 pub mod JsonFacts
 pub mod LengthFacts
+pub mod OrderFacts
+pub mod FitFacts

@@ -8,3 +8,4 @@ pub mod JsonFacts
 pub mod LengthFacts
 pub mod OrderFacts
 pub mod FitFacts
+pub mod ReadFacts

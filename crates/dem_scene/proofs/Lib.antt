@@ -9,3 +9,4 @@ pub mod LengthFacts
 pub mod OrderFacts
 pub mod FitFacts
 pub mod ReadFacts
+pub mod KindFacts

@@ -10,3 +10,4 @@ pub mod OrderFacts
 pub mod FitFacts
 pub mod ReadFacts
 pub mod KindFacts
+pub mod PartFacts

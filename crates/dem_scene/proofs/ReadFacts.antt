@@ -33,16 +33,25 @@ pub then_ok : {A B : Type 0} (r : Result A SceneFault) (f : A → Result B Scene
 then_ok (Ok x) f y e = (x, refl, e)
 then_ok (Err fault) f y e = absurd cc
 
+-- the value of an answer
+answer_or : {A : Type 0} → A → Result A SceneFault → A
+answer_or x (Ok y) = y
+answer_or x (Err fault) = x
+
+pub ok_same : {A : Type 0} (x y : A) → ◌≡◌ {A = Result A SceneFault} (Ok x) (Ok y) → x ≡ y
+unfolding answer_or
+ok_same x y e = ap (answer_or x) e
+
 -- a test that held
 pub so_ok : {A : Type 0} (fault : SceneFault) (b : Bool) (x y : A) → if_so fault b x ≡ Ok y → (b ≡ true) × (x ≡ y)
 so_ok fault true x y e = (refl, cc)
 so_ok fault false x y e = absurd cc
 
-unless_ok : (fault : SceneFault) (b : Bool) (u : ⊤) → unless fault b ≡ Ok u → b ≡ true
+pub unless_ok : (fault : SceneFault) (b : Bool) (u : ⊤) → unless fault b ≡ Ok u → b ≡ true
 unless_ok fault true u e = refl
 unless_ok fault false u e = absurd cc
 
-some_ok : {A : Type 0} (o : Option A) (fault : SceneFault) (x : A) → ok_or o fault ≡ Ok x → o ≡ Some x
+pub some_ok : {A : Type 0} (o : Option A) (fault : SceneFault) (x : A) → ok_or o fault ≡ Ok x → o ≡ Some x
 some_ok None fault x e = absurd cc
 some_ok (Some y) fault x e = cc
 
@@ -87,7 +96,7 @@ whole_fits (string s) z e h = absurd cc
 whole_fits (array ds) z e h = absurd cc
 whole_fits (object ms) z e h = absurd cc
 
-from_to_small : (low high : ℕ) (z : ℤ) → from_to low high z ≡ true → unsigned_abs z ≤ high
+pub from_to_small : (low high : ℕ) (z : ℤ) → from_to low high z ≡ true → unsigned_abs z ≤ high
 unfolding from_to
 from_to_small low high (pos n) e = let p = and_parts (nat_le low n) (nat_le n high) e in let q : nat_le n high ≡ true = p.1 in grind (arith, nat_tests)
 from_to_small low high (negsuc n) e = absurd cc

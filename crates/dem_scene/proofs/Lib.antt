@@ -11,3 +11,4 @@ pub mod FitFacts
 pub mod ReadFacts
 pub mod KindFacts
 pub mod PartFacts
+pub mod StandFacts

@@ -160,7 +160,7 @@ three_fits (string s) v e hx hy hz = absurd cc
 three_fits (array ds) v e hx hy hz = items_three ds v e hx hy hz
 three_fits (object ms) v e hx hy hz = absurd cc
 
-each_parts : (a b c : Bool) → (a && b && c) ≡ true → (a ≡ true) × (b ≡ true) × (c ≡ true)
+pub each_parts : (a b c : Bool) → (a && b && c) ≡ true → (a ≡ true) × (b ≡ true) × (c ≡ true)
 each_parts true true true e = (refl, refl, refl)
 each_parts true true false e = absurd cc
 each_parts true false c e = absurd cc

@@ -48,11 +48,20 @@ material_fits i d m o e =
     let mu = then_ok (number_or (codes "mu") 0 MAX_RATIO (spot names.MaterialsMu i 0) d) _ m bt.2 in
     known_fits (spot names.Materials i 0) material_rooms d a.0 refl o a.1 (
       number_at_fits (codes "kn") 1 MAX_STIFFNESS (spot names.MaterialsKn i 0) d kn.0 (omega arith) o kn.1,
-      (number_or_fits (codes "kt") 0 MAX_STIFFNESS (spot names.MaterialsKt i 0) d kt.0 (omega arith) o kt.1,
-      (number_or_fits (codes "bn") 0 MAX_RATIO (spot names.MaterialsBn i 0) d bn.0 (omega arith) o bn.1,
-      (number_or_fits (codes "bt") 0 MAX_RATIO (spot names.MaterialsBt i 0) d bt.0 (omega arith) o bt.1,
-      (number_or_fits (codes "mu") 0 MAX_RATIO (spot names.MaterialsMu i 0) d mu.0 (omega arith) o mu.1,
-      tt)))))
+      (
+        number_or_fits (codes "kt") 0 MAX_STIFFNESS (spot names.MaterialsKt i 0) d kt.0 (omega arith) o kt.1,
+        (
+          number_or_fits (codes "bn") 0 MAX_RATIO (spot names.MaterialsBn i 0) d bn.0 (omega arith) o bn.1,
+          (
+            number_or_fits (codes "bt") 0 MAX_RATIO (spot names.MaterialsBt i 0) d bt.0 (omega arith) o bt.1,
+            (
+              number_or_fits (codes "mu") 0 MAX_RATIO (spot names.MaterialsMu i 0) d mu.0 (omega arith) o mu.1,
+              tt,
+            ),
+          ),
+        ),
+      ),
+    )
 
 pub sphere_fits : (materials i j : ℕ) (d : Data) (b : Ball) → materials < 2 ^ 63 → IsOrdered d → sphere_of materials i j d ≡ Ok b → Fits 125 d
 unfolding sphere_of sphere_rooms names_of escape_byte
@@ -63,9 +72,14 @@ sphere_fits materials i j d b few o e =
     let mat = then_ok (index_at (codes "mat") materials (spot names.TemplatesSpheresMat i j) d) _ b r.2 in
     known_fits (spot names.TemplatesSpheres i j) sphere_rooms d a.0 refl o a.1 (
       vector_at_fits (codes "at") (at_most MAX_OFFSET) (spot names.TemplatesSpheresAt i j) d at.0 (at_most_passes MAX_OFFSET (omega arith)) o at.1,
-      (number_at_fits (codes "r") 1 MAX_RADIUS (spot names.TemplatesSpheresR i j) d r.0 (omega arith) o r.1,
-      (index_at_fits (codes "mat") materials (spot names.TemplatesSpheresMat i j) d mat.0 few o mat.1,
-      tt)))
+      (
+        number_at_fits (codes "r") 1 MAX_RADIUS (spot names.TemplatesSpheresR i j) d r.0 (omega arith) o r.1,
+        (
+          index_at_fits (codes "mat") materials (spot names.TemplatesSpheresMat i j) d mat.0 few o mat.1,
+          tt,
+        ),
+      ),
+    )
 
 pub template_fits : (materials i : ℕ) (d : Data) (t : Template) → materials < 2 ^ 63 → IsOrdered d → template_of materials i d ≡ Ok t → Fits 2135 d
 unfolding template_of template_rooms names_of escape_byte
@@ -76,9 +90,14 @@ template_fits materials i d t few o e =
     let balls = then_ok (list_at (codes "spheres") 1 MAX_BALLS (spot names.TemplatesSpheres i 0) (sphere_of materials i) d) _ t moments.2 in
     known_fits (spot names.Templates i 0) template_rooms d a.0 refl o a.1 (
       number_at_fits (codes "mass") 1 MAX_MASS (spot names.TemplatesMass i 0) d mass.0 (omega arith) o mass.1,
-      (vector_at_fits (codes "moments") (from_to 1 MAX_MOMENT) (spot names.TemplatesMoments i 0) d moments.0 (from_to_passes 1 MAX_MOMENT (omega arith)) o moments.1,
-      (list_at_fits 125 (codes "spheres") 1 MAX_BALLS (spot names.TemplatesSpheres i 0) (sphere_of materials i) d balls.0 (λ j x b. sphere_fits materials i j x b few) o balls.1,
-      tt)))
+      (
+        vector_at_fits (codes "moments") (from_to 1 MAX_MOMENT) (spot names.TemplatesMoments i 0) d moments.0 (from_to_passes 1 MAX_MOMENT (omega arith)) o moments.1,
+        (
+          list_at_fits 125 (codes "spheres") 1 MAX_BALLS (spot names.TemplatesSpheres i 0) (sphere_of materials i) d balls.0 (λ j x b. sphere_fits materials i j x b few) o balls.1,
+          tt,
+        ),
+      ),
+    )
 
 pub plane_fits : (i : ℕ) (d : Data) (f : Form) → IsOrdered d → plane_of i d ≡ Ok f → Fits 145 d
 unfolding plane_of plane_rooms names_of escape_byte
@@ -88,8 +107,11 @@ plane_fits i d f o e =
     let dir = then_ok (direction_at (codes "dir") (spot names.WallsPlaneDir i 0) d) _ f at.2 in
     known_fits (spot names.WallsPlane i 0) plane_rooms d a.0 refl o a.1 (
       vector_at_fits (codes "at") (from_to 0 MAX_POINT) (spot names.WallsPlaneAt i 0) d at.0 (from_to_passes 0 MAX_POINT (omega arith)) o at.1,
-      (direction_at_fits (codes "dir") (spot names.WallsPlaneDir i 0) d dir.0 o dir.1,
-      tt))
+      (
+        direction_at_fits (codes "dir") (spot names.WallsPlaneDir i 0) d dir.0 o dir.1,
+        tt,
+      ),
+    )
 
 pub cylinder_fits : (widest i : ℕ) (d : Data) (f : Form) → IsOrdered d → cylinder_of widest i d ≡ Ok f → Fits 109 d
 unfolding cylinder_of cylinder_rooms names_of escape_byte
@@ -100,9 +122,14 @@ cylinder_fits widest i d f o e =
     let r = then_ok (number_at (codes "r") (widest + 1) MAX_CYLINDER (spot names.WallsCylinderR i 0) d) _ f at.2 in
     known_fits (spot names.WallsCylinder i 0) cylinder_rooms d a.0 refl o a.1 (
       axis_at_fits (codes "axis") (spot names.WallsCylinderAxis i 0) d axis.0 o axis.1,
-      (vector_at_fits (codes "at") (from_to 0 MAX_POINT) (spot names.WallsCylinderAt i 0) d at.0 (from_to_passes 0 MAX_POINT (omega arith)) o at.1,
-      (number_at_fits (codes "r") (widest + 1) MAX_CYLINDER (spot names.WallsCylinderR i 0) d r.0 (omega arith) o r.1,
-      tt)))
+      (
+        vector_at_fits (codes "at") (from_to 0 MAX_POINT) (spot names.WallsCylinderAt i 0) d at.0 (from_to_passes 0 MAX_POINT (omega arith)) o at.1,
+        (
+          number_at_fits (codes "r") (widest + 1) MAX_CYLINDER (spot names.WallsCylinderR i 0) d r.0 (omega arith) o r.1,
+          tt,
+        ),
+      ),
+    )
 
 one_fits : (widest i : ℕ) (plane cylinder : Option Data) (f : Form) → IfThere IsOrdered plane → IfThere IsOrdered cylinder → one_form widest i plane cylinder ≡ Ok f → IfThere (Fits 145) plane × IfThere (Fits 109) cylinder
 one_fits widest i (Some p) None f op oc e = (plane_fits i p f op e, tt)
@@ -119,6 +146,11 @@ wall_fits materials widest i d w few o e =
     let one = one_fits widest i (get (codes "plane") d) (get (codes "cylinder") d) form.0 (ordered_at (codes "plane") d o) (ordered_at (codes "cylinder") d o) form.1 in
     known_fits (spot names.Walls i 0) wall_rooms d a.0 refl o a.1 (
       one.0,
-      (one.1,
-      (index_at_fits (codes "mat") materials (spot names.WallsMat i 0) d mat.0 few o mat.1,
-      tt)))
+      (
+        one.1,
+        (
+          index_at_fits (codes "mat") materials (spot names.WallsMat i 0) d mat.0 few o mat.1,
+          tt,
+        ),
+      ),
+    )

@@ -12,3 +12,4 @@ pub mod ReadFacts
 pub mod KindFacts
 pub mod PartFacts
 pub mod StandFacts
+pub mod ReplaceFacts

@@ -125,7 +125,7 @@ stands_read s before k i (x ∷ xs) b few h room =
     let both = length-append (map (sphere_of k) (balls_of s.templates x.t)) (spheres_from s.templates (k + 1) (map standing xs)) in
     then_gives (clump_of s.templates before i (stand_data x)) _ (standing x) (standing x ∷ map standing xs) (stand_read s.templates before i x few x_in.t x_in.place (omega (arith, room, own, both))) (
     then_gives (clumps_from s.templates (before + ball_count s.templates x.t) (i + 1) (stand_items xs)) _ (map standing xs) (standing x ∷ map standing xs)
-        (stands_read s (before + ball_count s.templates x.t) (k + 1) (i + 1) xs b few (All-tail (λ (y : Stand). IsClump s (standing y)) x xs h) (omega (arith, room, own, both))) refl)
+    (stands_read s (before + ball_count s.templates x.t) (k + 1) (i + 1) xs b few (All-tail (λ (y : Stand). IsClump s (standing y)) x xs h) (omega (arith, room, own, both))) refl)
 
 -- as many objects as stands
 pub stand_count : (stands : List Stand) → count_of (stand_items stands) ≡ length stands

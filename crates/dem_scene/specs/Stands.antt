@@ -1,9 +1,10 @@
 -- Stands in a value tree: the objects that they are, and the tree of a scene text with stands in the place of its clumps.
-use Rattle.std.specs.Prelude.{◌≡◌, ℕ, ℤ, List, map, codes, Ok}
-use Rattle.serde_json.specs.Data.{Data, unsigned, null, boolean, number, string, array, object, Items, no_items, item, Members, no_members, member, put}
+use Rattle.std.specs.Prelude.{◌≡◌, ◌≤◌, ℕ, ℤ, false, List, map, codes, Ok}
+use Rattle.serde_json.specs.Data.{Data, unsigned, number, array, object, Items, no_items, item, Members, no_members, member, put, depth}
 use Rattle.serde_json.specs.Find.{of_integer}
 use Rattle.serde_json.specs.View.{items_of}
-use Rattle.serde_json.specs.Written.{compact_text}
+use Rattle.serde_json.specs.Read.{max_depth}
+use Rattle.serde_json.specs.Written.{has_float, compact_text}
 use Rattle.dem_num.specs.declared.vector.Vec3.{Vec3}
 use Rattle.dem_model.specs.declared.state.Stand.{Stand}
 use Rattle.dem_model.specs.ReadingScene.{json_of}
@@ -36,3 +37,8 @@ with_clumps_of stands d = d
 -- the bytes are the compact text of the tree of some other bytes, with the stands as its clumps
 abbrev pub IsWithClumps : List Stand → List ℕ → List ℕ → Type 0
 IsWithClumps stands bytes text = (d : Data) × (json_of bytes ≡ Ok d) × (text ≡ compact_text (with_clumps_of stands d))
+
+-- a text that is the compact one of a tree without fractions, and that is read as the tree where it nests no deeper than a text may
+pub record IsTextOf (d : Data) (text : List ℕ) : Type 0 where
+  pub compact : has_float d ≡ false → text ≡ compact_text d
+  pub back : depth d ≤ max_depth → json_of text ≡ Ok d

@@ -14,6 +14,7 @@ mod number;
 mod object;
 mod place;
 mod read;
+mod stand;
 mod template;
 mod text;
 mod vector;
@@ -21,6 +22,7 @@ mod wall;
 
 pub use dem_model::{Name, SceneFault, Spot};
 pub use read::read_scene;
+pub use stand::with_clumps;
 pub use text::{LINE_ROOM, Line, fault_line};
 
 #[cfg(test)]

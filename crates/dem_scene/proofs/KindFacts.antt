@@ -1,5 +1,5 @@
 -- Materials, templates and walls that were read have no fraction and short texts.
-use Rattle.std.proofs.Common.{◌≡◌, ℕ, ◌+◌, ◌<◌, ◌≤◌, ◌^◌, List, [], ◌∷◌, length, Option, Some, None, Ok, codes, refl, arith}
+use Rattle.std.proofs.Common.{◌≡◌, ℕ, ◌+◌, ◌<◌, ◌^◌, [], ◌∷◌, Option, Some, None, Ok, codes, refl, arith}
 use Rattle.json.specs.Print.{escape_byte}
 use Rattle.serde_json.specs.Data.{Data}
 use Rattle.serde_json.specs.Find.{get}
@@ -9,13 +9,13 @@ use Rattle.dem_model.specs.declared.shape.Ball.{Ball}
 use Rattle.dem_model.specs.declared.shape.Template.{Template}
 use Rattle.dem_model.specs.declared.shape.Form.{Form}
 use Rattle.dem_model.specs.declared.shape.Wall.{Wall}
-use Rattle.dem_model.specs.declared.limits.TheConstants.{MAX_STIFFNESS, MAX_RATIO, MAX_MASS, MAX_MOMENT, MAX_BALLS, MAX_OFFSET, MAX_RADIUS, MAX_POINT, MAX_CYLINDER, MAX_MATERIALS, MAX_TEMPLATES, MAX_WALLS}
-use Rattle.dem_model.specs.Reading.{spot, from_to, at_most, check_object, number_at, number_or, index_at, list_at, list_or}
+use Rattle.dem_model.specs.declared.limits.TheConstants.{MAX_STIFFNESS, MAX_RATIO, MAX_MASS, MAX_MOMENT, MAX_BALLS, MAX_OFFSET, MAX_RADIUS, MAX_POINT, MAX_CYLINDER}
+use Rattle.dem_model.specs.Reading.{spot, from_to, at_most, check_object, number_at, number_or, index_at, list_at}
 use Rattle.dem_model.specs.ReadingNames.{names_of}
 use Rattle.dem_model.specs.ReadingVectors.{vector_at, direction_at}
 use Rattle.dem_model.specs.ReadingKinds.{material_of, sphere_of, template_of, plane_of, axis_at, cylinder_of, one_form, form_at, wall_of}
 use Rattle.dem_scene.proofs.OrderFacts.{IsOrdered, IfThere}
-use Rattle.dem_scene.proofs.FitFacts.{Fits, Rooms, AreIn}
+use Rattle.dem_scene.proofs.FitFacts.{Fits, Rooms}
 use Rattle.dem_scene.proofs.ReadFacts.{then_ok, ordered_at, from_to_passes, at_most_passes, number_at_fits, number_or_fits, index_at_fits, vector_at_fits, direction_at_fits, axis_at_fits, list_at_fits, known_fits}
 
 -- the names of each kind, with the room for each value

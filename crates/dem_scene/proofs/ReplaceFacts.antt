@@ -1,38 +1,33 @@
 -- A scene text's tree with stands as its clumps: the scene that it is, how long its text is, how deep it nests.
-use Rattle.std.proofs.Common.{◌≡◌, ℕ, suc, ◌+◌, ◌^◌, ◌<◌, ◌≤◌, Bool, true, false, cond, ◌&&◌, List, [], ◌∷◌, map, length, Option, Some, None, Result, Ok, Err, IfOk, codes, bytes_eq, nat_lt, nat_le, unsigned_abs, Ordering, Less, Equal, Greater, nat_cmp, refl, sym, ap, ◌∙◌, subst, true≢false, arith}
-use Rattle.std.specs.Prelude.{⊤}
+use Rattle.std.proofs.Common.{◌≡◌, ℕ, ◌^◌, ◌<◌, ◌≤◌, Bool, true, false, cond, ◌&&◌, List, [], ◌∷◌, map, length, Option, Some, None, Result, Ok, Err, IfOk, IsOk, codes, bytes_eq, nat_lt, nat_le, Ordering, Less, Equal, Greater, nat_cmp, refl, sym, ap, ◌∙◌, subst, true≢false, arith}
 use Rattle.std.specs.List.{list_all}
-use Rattle.std.specs.Str.{IsUtf8, is_utf8}
+use Rattle.std.specs.Str.{is_utf8}
 use Rattle.std.specs.Ordering.{match_ordering}
 use Rattle.std.specs.Cmp.Lexicographic.{slice_cmp}
 use Rattle.std.proofs.lemmas.Bool.{and_parts}
 use Rattle.std.proofs.lemmas.Bool.Decides.{nat_tests}
-use Rattle.std.proofs.lemmas.List.{length-map}
 use Rattle.std.proofs.lemmas.Slice.Eq.{bytes_eq-Decides}
 use Rattle.json.specs.Print.{escape_byte}
-use Rattle.serde_json.specs.Data.{Data, null, boolean, number, string, array, object, Items, no_items, item, Members, no_members, member, put, depth, members_depth}
-use Rattle.serde_json.specs.Find.{get, get_member, as_array}
+use Rattle.serde_json.specs.Data.{Data, null, boolean, number, string, array, object, Members, no_members, member, put, depth, members_depth}
+use Rattle.serde_json.specs.Find.{get}
 use Rattle.serde_json.specs.Read.{max_depth, read}
 use Rattle.serde_json.proofs.Nesting.{depth-read}
 use Rattle.serde_json.proofs.Views.{get_member-put, get_member-put_other}
-use Rattle.dem_num.specs.declared.vector.Vec3.{Vec3}
-use Rattle.dem_model.specs.declared.fault.Spot.{Spot}
 use Rattle.dem_model.specs.declared.fault.Name.TheVariants as names
 use Rattle.dem_model.specs.declared.fault.SceneFault.{SceneFault}
 use Rattle.dem_model.specs.declared.fault.SceneFault.TheVariants.{TooLong, NotJson, Unknown, Count}
 use Rattle.dem_model.specs.declared.state.Stand.{Stand}
 use Rattle.dem_model.specs.declared.limits.TheConstants.{MAX_TEXT, MAX_VOXELS, MAX_STEPS, MAX_SPEED, MAX_SPIN, MAX_GRAVITY, MAX_MATERIALS, MAX_TEMPLATES, MAX_WALLS, MAX_CLUMPS}
 use Rattle.dem_model.specs.SceneValue.{SceneValue}
-use Rattle.dem_model.specs.Sound.{IsFrom, IsClump}
 use Rattle.dem_model.specs.Spheres.{spheres_of}
 use Rattle.dem_model.specs.Stands.{standing, with_stands, CanStand}
-use Rattle.dem_model.specs.Reading.{◌>>=◌, spot, unless, if_so, required, optional, is_among, names_in, from_to, at_most, check_object, number_at, counted, count_of, list_at, list_or}
+use Rattle.dem_model.specs.Reading.{◌>>=◌, spot, unless, if_so, required, optional, is_among, names_in, from_to, at_most, check_object, number_at, count_of, list_at, list_or}
 use Rattle.dem_model.specs.ReadingNames.{names_of}
 use Rattle.dem_model.specs.ReadingVectors.{vector_at, vector_or}
 use Rattle.dem_model.specs.ReadingKinds.{material_of, template_of, greatest_radius, wall_of, clumps_from}
 use Rattle.dem_model.specs.ReadingScene.{check_version, clumps_of, clumps_at, table_of, check_clumps, scene_of, tree_of, json_of, scene_from}
-use Rattle.dem_scene.specs.Stands.{stand_data, stand_items, with_clumps_in, with_clumps_of}
-use Rattle.dem_scene.proofs.OrderFacts.{IsOrdered, AreOrdered, HasOrder, IfThere, order_put, order_read}
+use Rattle.dem_scene.specs.Stands.{stand_items, with_clumps_in, with_clumps_of, IsWithClumps, IsTextOf}
+use Rattle.dem_scene.proofs.OrderFacts.{IsOrdered, AreOrdered, IfThere, order_put, order_read}
 use Rattle.dem_scene.proofs.FitFacts.{Fits, Fits-more, Rooms}
 use Rattle.dem_scene.proofs.ReadFacts.{then_ok, unless_ok, ok_same, from_to_small, from_to_passes, at_most_passes, number_at_fits, vector_at_fits, vector_or_fits, version_at_fits, list_at_fits, list_or_fits, known_fits}
 use Rattle.dem_scene.proofs.KindFacts.{material_fits, template_fits, wall_fits}
@@ -266,3 +261,22 @@ unfolding scene_from
 scene_of_text text d s json short e =
     let b : nat_lt MAX_TEXT (length text) ≡ false = grind (arith, nat_tests) in
     ap (λ x. cond x (Err TooLong) (json_of text >>= scene_of)) b ∙ ap (λ r. r >>= scene_of) json ∙ e
+
+-- what the text with the stands is
+pub record IsAnswer (bytes : List ℕ) (stands : List Stand) (read_as : Result SceneValue SceneFault) (text : List ℕ) : Type 0 where
+  pub compact : IsWithClumps stands bytes text
+  pub scene : IfOk read_as (λ s. scene_from text ≡ Ok (with_stands s stands))
+  pub short : length text ≤ 2 ^ 22
+
+-- the compact text of the tree with the stands
+pub answer : (bytes : List ℕ) (stands : List Stand) (d : Data) (text : List ℕ) (read_as : Result SceneValue SceneFault) → scene_from bytes ≡ read_as → IsOk read_as → IfOk read_as (λ s. CanStand s stands) → json_of bytes ≡ Ok d → IsTextOf (with_clumps_of stands d) text → IsAnswer bytes stands read_as text
+answer bytes stands d text (Err fault) is ok h json t = absurd cc
+answer bytes stands d text (Ok s) is ok h json t =
+    let all = replaced bytes stands s d json (scene_in bytes d s json is) h in
+    let compact = t.compact all.fits.whole in
+    let short : length text ≤ 2 ^ 22 = rw compact all.fits.short in
+    record {
+      compact = (d, json, compact);
+      scene = scene_of_text text (with_clumps_of stands d) (with_stands s stands) (t.back all.shallow) short all.scene;
+      short = short;
+    }

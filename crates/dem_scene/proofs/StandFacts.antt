@@ -1,37 +1,30 @@
 -- Stands that a scene can have are read as its clumps, within its limits and inside its box, and their texts are short.
-use Rattle.std.proofs.Common.{◌≡◌, ℕ, suc, ◌+◌, ◌-◌, ◌*◌, ◌^◌, ◌<◌, ◌≤◌, ℤ, pos, negsuc, Bool, true, false, not, cond, ◌&&◌, List, [], ◌∷◌, ◌++◌, map, length, Option, Some, None, Result, Ok, Err, codes, unsigned_abs, nat_lt, nat_le, int_lt, All, IsTrue, refl, sym, ap, ◌∙◌, subst, arith}
-use Rattle.std.specs.Prelude.{⊤, ok_or, option_and_then}
-use Rattle.std.specs.List.{list_all}
-use Rattle.std.proofs.lemmas.Bool.{and_parts}
+use Rattle.std.proofs.Common.{◌≡◌, ℕ, suc, ◌+◌, ◌-◌, ◌*◌, ◌^◌, ◌<◌, ◌≤◌, ℤ, pos, negsuc, Bool, true, cond, ◌&&◌, List, [], ◌∷◌, map, length, Some, None, Ok, codes, unsigned_abs, nat_lt, nat_le, All, refl, ap, arith}
+use Rattle.std.specs.Prelude.{ok_or, option_and_then}
 use Rattle.std.proofs.lemmas.Bool.Decides.{nat_tests}
 use Rattle.std.proofs.lemmas.List.{length-append, length-map}
 use Rattle.std.proofs.lemmas.List.Elements.{All-head, All-tail}
 use Rattle.std.proofs.lemmas.List.Sums.{list_all-from_AllPass}
-use Rattle.json.specs.Print.{quoted, escape_byte}
-use Rattle.serde_json.specs.Data.{depth, items_depth, Data, unsigned, number, array, object, Items, no_items, item, Members, no_members, member}
-use Rattle.serde_json.specs.Find.{get, as_array}
-use Rattle.serde_json.specs.Written.{compact_text, items_text}
+use Rattle.json.specs.Print.{escape_byte}
+use Rattle.serde_json.specs.Data.{depth, items_depth, unsigned, number, array, no_items, item, no_members, member}
+use Rattle.serde_json.specs.Find.{as_array}
 use Rattle.dem_num.specs.declared.vector.Vec3.{Vec3}
-use Rattle.dem_num.specs.declared.vector.Wide3.{Wide3}
 use Rattle.dem_num.specs.Vectors.{widened}
 use Rattle.dem_model.specs.declared.fault.Spot.{Spot}
 use Rattle.dem_model.specs.declared.fault.Name.TheVariants as names
-use Rattle.dem_model.specs.declared.fault.SceneFault.{SceneFault}
 use Rattle.dem_model.specs.declared.fault.SceneFault.TheVariants.{Range, Field, Index, Count, OutsideBox, OverLimit}
 use Rattle.dem_model.specs.declared.shape.Ball.{Ball}
 use Rattle.dem_model.specs.declared.shape.Template.{Template}
-use Rattle.dem_model.specs.declared.state.Body.{Body}
-use Rattle.dem_model.specs.declared.state.Clump.{Clump}
 use Rattle.dem_model.specs.declared.state.Stand.{Stand}
-use Rattle.dem_model.specs.declared.limits.TheConstants.{MAX_VOXELS, VOXEL, MAX_POINT, MAX_SPEED, MAX_SPIN, MAX_SPHERES, MAX_CLUMPS}
+use Rattle.dem_model.specs.declared.limits.TheConstants.{MAX_VOXELS, MAX_POINT, MAX_SPHERES, MAX_CLUMPS}
 use Rattle.dem_model.specs.SceneValue.{SceneValue}
 use Rattle.dem_model.specs.Position.{in_voxels, in_box}
 use Rattle.dem_model.specs.Spheres.{balls_of, sphere_of, spheres_of_clump, spheres_from, center_of}
 use Rattle.dem_model.specs.Sound.{IsClump}
 use Rattle.dem_model.specs.Stands.{standing_body, standing, with_stands}
-use Rattle.dem_model.specs.Reading.{◌>>=◌, spot, unless, if_so, required, is_among, from_to, at_most, below, check_object, whole, whole_of, index_of, index_at, count_of}
+use Rattle.dem_model.specs.Reading.{spot, unless, if_so, is_among, from_to, at_most, below, check_object, whole, whole_of, index_of, index_at, count_of}
 use Rattle.dem_model.specs.ReadingNames.{names_of}
-use Rattle.dem_model.specs.ReadingVectors.{vector_of_three, three_of, each_is, three_at, vector_of, vector_at, zero_vector, vector_or, default_quaternion, quaternion_or}
+use Rattle.dem_model.specs.ReadingVectors.{vector_of_three, three_of, each_is, three_at, vector_of, vector_at, vector_or, quaternion_or}
 use Rattle.dem_model.specs.ReadingKinds.{ball_count, check_total, clump_of, clumps_from}
 use Rattle.dem_model.specs.ReadingScene.{in_limits, centers_inside, is_inside, check_clump, check_clumps}
 use Rattle.dem_scene.specs.Stands.{whole_data, vector_data, stand_data, stand_items}

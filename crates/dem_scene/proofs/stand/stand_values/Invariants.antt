@@ -1,8 +1,8 @@
-use Rattle.std.proofs.Common.{◌≡◌, take}
-use Rattle.serde_json.specs.View.{items_view}
-use Rattle.dem_scene.specs.Stands.{stand_items}
+use Rattle.std.proofs.Common.{◌≡◌, map, take}
+use Rattle.serde_json.specs.View.{view}
+use Rattle.dem_scene.specs.Stands.{stand_data}
 use Rattle.dem_scene.proofs.stand.stand_values.Given as goal
 
 -- the objects of the stands so far
 abbrev pub invariant-loop-stand : goal.invariant-loop-stand
-invariant-loop-stand l = items_view l.values.items ≡ stand_items (take l.stand-index l.stands)
+invariant-loop-stand l = map view l.values.items ≡ map stand_data (take l.stand-index l.stands)

@@ -67,7 +67,11 @@ fn text(alloc: Global, tree: &Value) -> Result<List<u8>, OutOfMemory>
 }
 
 /// The text of a value tree of a scene with one object per stand as its clumps.
-fn text_with_clumps(alloc: Global, tree: Value, stands: &[Stand]) -> Result<List<u8>, OutOfMemory>
+pub(crate) fn text_with_clumps(
+    alloc: Global,
+    tree: Value,
+    stands: &[Stand],
+) -> Result<List<u8>, OutOfMemory>
     ensures { IfOk result (IsTextOf (with_clumps_of stands.now (view tree))) }
 {
     match with_clumps_in(alloc, tree, stands) {

@@ -1,7 +1,7 @@
 -- The first comma, looked for from the front.
-use Rattle.std.proofs.Common.{◌≡◌, ℕ, zero, suc, ◌+◌, ◌<◌, ◌≤◌, Bool, true, false, List, [], ◌∷◌, length, take, drop, get_or, Option, None, Some, refl, sym, ap, ◌∙◌, subst, arith}
+use Rattle.std.proofs.Common.{◌≡◌, ℕ, zero, suc, ◌+◌, ◌<◌, ◌≤◌, true, false, List, [], ◌∷◌, length, take, drop, get_or, None, Some, refl, sym, ap, ◌∙◌, arith}
 use Rattle.std.specs.Prelude.{◌==◌, option_map, if◌then◌else◌}
-use Rattle.dem_pack.specs.Rows.{Front, field_before, longer}
+use Rattle.dem_pack.specs.Rows.{field_before, longer}
 
 -- no comma is among the first bytes
 abbrev pub NoComma : List ℕ → ℕ → Type 0

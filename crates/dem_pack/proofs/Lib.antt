@@ -14,3 +14,4 @@ pub mod AnswerFacts
 pub mod CanFacts
 pub mod BodyFacts
 pub mod CommaFacts
+pub mod StartFacts

@@ -1,5 +1,5 @@
 -- Rows that ask for a packing: the kind, the template, the gap, and the components of both corners, with commas between them.
-use Rattle.std.specs.Prelude.{ℕ, ℤ, pos, negsuc, ◌-◌, ◌^◌, ◌==◌, Bool, List, [], ◌∷◌, length, take, drop, codes, nat_le, Option, Some, None, option_map, option_and_then, if◌then◌else◌}
+use Rattle.std.specs.Prelude.{ℕ, ℤ, pos, negsuc, ◌-◌, ◌^◌, ◌==◌, List, [], ◌∷◌, length, take, drop, codes, nat_le, Option, Some, None, option_map, if◌then◌else◌}
 use Rattle.std.specs.Str.{bytes_eq}
 use Rattle.dem_num.specs.declared.vector.Vec3.{Vec3}
 use Rattle.dem_frame.specs.Records.{number_of}

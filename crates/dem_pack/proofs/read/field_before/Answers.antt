@@ -1,7 +1,6 @@
-use Rattle.std.proofs.Common.{◌≡◌, ℕ, ◌+◌, ◌-◌, ◌<◌, ◌≤◌, List, length, take, drop, Some, sym, ap, ◌∙◌, arith}
+use Rattle.std.proofs.Common.{◌≡◌, ℕ, ◌+◌, ◌-◌, List, length, take, drop, Some, ap, ◌∙◌, arith}
 use Rattle.std.specs.Prelude.{◌==◌}
 use Rattle.std.proofs.lemmas.List.{length-drop, take_all}
-use Rattle.dem_pack.specs.Rows.{Front, field_before}
 use Rattle.dem_pack.proofs.CommaFacts.{field-found, field-none}
 use Rattle.dem_pack.proofs.read.field_before.Goals as goal
 

@@ -1,0 +1,25 @@
+use Rattle.std.proofs.lemmas.Result.{err_from_is_err_and}
+use Rattle.dem_outside.specs.Change.{change}
+use Rattle.dem_pack.specs.Asks.{answer_of}
+use Rattle.dem_top.specs.Packed.{by_stands}
+use Rattle.dem_top.proofs.JobFacts.{begins-nothing}
+use Rattle.dem_top.proofs.PackedFacts.{pack-bad, filled, filled-cut}
+use Rattle.dem_top.proofs.packing.write_filled.Goals as goal
+
+pub returns-in_err-stands : goal.returns-in_err-stands
+returns-in_err-stands g c =
+    let p = err_from_is_err_and c.from_residual.result c.from_residual.ensures.1 in
+    let out = change g.K.Sink.held g.K.Sink.faults c.args.out.now c.args.out.now in
+    rw (p.1, p.2) (λ note. pack-bad c.args.text.now (answer_of c.args.scene.now c.args.ask.now) out.before note c.in_err-stands.field-0.0 c.in_err-stands.ensures.answer.err)
+
+pub returns-in_err-filled : goal.returns-in_err-filled
+returns-in_err-filled g c =
+    let p = err_from_is_err_and c.from_residual-in_err-filled.result c.from_residual-in_err-filled.ensures.1 in
+    let out = change g.K.Sink.held g.K.Sink.faults c.args.out.now c.args.out.now in
+    rw (p.1, p.2) (λ note. (begins-nothing (by_stands c.args.text.now (answer_of c.args.scene.now c.args.ask.now)) out.before note, refl, refl))
+
+pub returns-in_err-write_line : goal.returns-in_err-write_line
+returns-in_err-write_line g c = c
+
+pub returns : goal.returns
+returns g c = c

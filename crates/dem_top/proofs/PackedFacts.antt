@@ -52,7 +52,7 @@ module _ (count : ℕ) (text row : List ℕ) (s : SceneValue) (is : scene_from t
 
 -- the text that was made is that of the value tree
 pub text-is : (stands : List Stand) (bytes text : List ℕ) → IsWithClumps stands bytes text → text ≡ text_with stands (json_of bytes)
-text-is stands bytes text is = is.2.1 ∙ ap (text_with stands) (sym is.2.0)
+text-is stands bytes text is = is.2 ∙ ap (text_with stands) (sym is.1)
 
 module _ (text : List ℕ) (answer : Result (List Stand) PackFault) where
   -- it is refused, or there was no memory for it

@@ -7,3 +7,4 @@ pub mod KeptFacts
 pub mod MarkFacts
 pub mod StoredFacts
 pub mod PreparedFacts
+pub mod SplitFacts

@@ -4,3 +4,4 @@ pub mod Inside
 pub mod Stored
 pub mod Prepared
 pub mod Marks
+pub mod Split

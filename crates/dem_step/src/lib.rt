@@ -6,7 +6,8 @@
 //! the near list of a snapshot may be taken into use while `can_adopt` says so, and then each pair that touches has its
 //! displacement. It stores positions by voxel (`Stored`), may make ahead what a step needs of the bodies (`Prepared`), and marks the pairs that
 //! may touch before their list is too old (`Marks`).
-//! Takes memory: `Dyn::new` and `Dyn::adopt`, never `Dyn::step`. Not here: which pairs are near (dem_margin), touch, law and advance (dem_force), carrying (dem_hist).
+//! `Dyn::step_split` makes the same step with its contacts computed by several threads.
+//! Takes memory: `Dyn::new`, `Dyn::adopt` and `Dyn::step_split`, never `Dyn::step`. Not here: which pairs are near (dem_margin), touch, law and advance (dem_force), carrying (dem_hist).
 #![tactic(auto)]
 
 mod advancing;
@@ -14,7 +15,9 @@ mod marks;
 mod meeting;
 mod prepared;
 mod room;
+mod split;
 mod stepper;
 mod stored;
 
+pub use split::SplitStop;
 pub use stepper::Dyn;

@@ -56,7 +56,7 @@ pub fn meet_all<L: Ledger>(
 }
 
 /// Sets each load to nothing.
-fn clear(loads: &mut [Load])
+pub fn clear(loads: &mut [Load])
     ensures { loads.new ≡ replicate (length loads.old) no_load }
 {
     let nothing = Wide3 { x: 0, y: 0, z: 0 };

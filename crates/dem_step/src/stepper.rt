@@ -27,6 +27,7 @@ use crate::marks::Marks;
 use crate::meeting::meet_all;
 use crate::prepared::Prepared;
 use crate::room::make_room;
+use crate::split::SplitRoom;
 use crate::stored::StoredBodies;
 use dem_force::no_loads;
 use dem_hist::Contacts;
@@ -38,6 +39,8 @@ use dem_voxel::VoxelPos;
 use std::alloc::Global;
 use std::marker::Model;
 use std::sync::ledger::Ledger;
+
+mod splitting;
 
 /// A run of a scene on lists of near pairs, seen as the scene, the drift limit, the plain state that it has reached, the
 /// step of the list in use, and what is held of each of its pairs. The room of a step is made before it.
@@ -54,6 +57,7 @@ pub struct Dyn<'s> {
     loads: Vec<Load>,
     next: StoredBodies,
     fresh: Vec<Option<Vec3>>,
+    split: SplitRoom,
 }
 
 impl<'s> Model for Dyn<'s> {
@@ -89,6 +93,7 @@ impl<'s> Dyn<'s> {
             loads: no_loads(alloc, shapes)?,
             next: StoredBodies::new(alloc, shapes)?,
             fresh: Vec::new(alloc),
+            split: SplitRoom::new(alloc),
         })
     }
 
@@ -277,7 +282,7 @@ fn is_in_time(from: u32, now: u32, drift: u32) -> bool
 }
 
 /// How many steps a list may be used yet, after the one from here.
-fn steps_left(from: u32, now: u32, drift: u32) -> u32
+pub fn steps_left(from: u32, now: u32, drift: u32) -> u32
     requires past { from ≤ now }
     requires young { now ≤ from + drift }
     ensures value { now + result ≡ from + drift }

@@ -7,9 +7,9 @@ ghost use Rattle.dem_model.specs.declared.limits.TheConstants.{MAX_DISPLACEMENT}
 ghost use Rattle.dem_model.specs.Ranges.{IsLaw, IsBounded, IsFirst, IsSecond, IsTouch, IsSmall};
 
 use crate::pushing::mixing::{effective_mass, effective_radius};
-use crate::pushing::motion::{contact_radius, motion_between};
+use crate::pushing::motion::{contact_radius, depth, motion_between};
 use crate::pushing::normal::normal_force;
-use crate::pushing::push::{force_on_first, torque_on_first, torque_on_second};
+use crate::pushing::push::{force_on_first, rubbing, torque_on_first, torque_on_second};
 use crate::pushing::sliding::{carried, friction_bound, gripped, trial};
 use dem_model::{Law, Push, Side, Touch};
 use dem_num::Vec3;
@@ -51,7 +51,7 @@ fn pushed(law: &Law, a: &Side, b: &Side, n: Vec3, delta: u64, h0: Vec3) -> Push
 }
 
 /// What a contact does, once the normal force, the displacement and the trial of the tangential force are known.
-#[tactic(auto, unfolding(dem_model::specs::Law::push_with))]
+#[tactic(auto, unfolding(dem_model::specs::Law::push_with, dem_model::specs::Law::torque_a_of, dem_model::specs::Law::torque_b_of))]
 fn push_at(
     law: &Law,
     a: &Side,
@@ -74,10 +74,11 @@ fn push_at(
 {
     let grip = gripped(law.kt, friction_bound(law.mu, normal), trial, h);
     let force = force_on_first(n, normal, grip.friction);
+    let rubbed = rubbing(depth(a.r, delta), depth(b.r, delta), n, grip.friction);
     Push {
         force,
-        torque_a: torque_on_first(a, n, delta, force, grip.friction),
-        torque_b: torque_on_second(b, n, delta, force, grip.friction),
+        torque_a: torque_on_first(a, force, rubbed.first),
+        torque_b: torque_on_second(b, force, rubbed.second),
         h: grip.h,
     }
 }

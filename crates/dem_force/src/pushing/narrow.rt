@@ -12,8 +12,8 @@ use dem_num::{Vec3, mul, narrow, sh, sub_short};
 /// The greatest product of a stiffness and a contact radius that is narrow.
 pub const NARROW_STIFFNESS: u64 = 1 << 50;
 
-/// The greatest factor of speed that is narrow.
-pub const NARROW_FACTOR: u128 = 1 << 50;
+/// The greatest root of stiffness, contact radius and mass that is narrow.
+pub const NARROW_ROOT: u64 = 1 << 32;
 
 /// The greatest speed that is narrow.
 const NARROW_SPEED: u64 = 1 << 43;
@@ -30,6 +30,16 @@ pub fn are_slow(slip: Vec3) -> bool
     ensures { result ≡ true → Within (widened slip) (2 ^ 43) }
 {
     is_slow(slip.x) && is_slow(slip.y) && is_slow(slip.z)
+}
+
+/// What damping multiplies each speed by, times 2^32: the ratio times the root.
+pub fn narrow_factor(ratio: u32, root: u64) -> u64
+    requires ratio_small { ratio ≤ 2 ^ 18 }
+    requires root_small { root ≤ 2 ^ 32 }
+    ensures value { result ≡ ratio * root }
+    ensures size { result ≤ 2 ^ 50 }
+{
+    ratio as u64 * root
 }
 
 /// The force along the normal, from the factors of overlap and of speed.

@@ -7,7 +7,7 @@ ghost use Rattle.dem_model.specs.Law.{elastic_force_of, damping_of, normal_force
 ghost use Rattle.dem_model.specs.Ranges.{IsLaw};
 ghost use Rattle.dem_force.specs.Narrow.{pressing_of};
 
-use crate::pushing::narrow::{NARROW_FACTOR, NARROW_STIFFNESS, is_slow, narrow_press};
+use crate::pushing::narrow::{NARROW_ROOT, NARROW_STIFFNESS, is_slow, narrow_factor, narrow_press};
 use dem_model::{Law, MAX_FORCE};
 use dem_num::{mul, root, sh, sub};
 
@@ -21,30 +21,37 @@ fn elastic_force(stiffness: u64, delta: u64) -> i128
     sh((stiffness as u128 * delta as u128) as i128, 16)
 }
 
-/// What damping multiplies each speed by, times 2^32: the ratio times the root of stiffness, contact radius and mass.
-pub fn damping_factor(ratio: u32, stiffness: u32, c: u64, mass: u64) -> u128
-    requires ratio_small { ratio ≤ 2 ^ 18 }
-    requires stiffness_small { stiffness ≤ 2 ^ 28 }
-    requires radius_small { c ≤ 2 ^ 27 }
+/// The root of stiffness, contact radius and mass, by which damping grows: any number where there is no damping.
+pub fn damping_root(ratio: u32, stiffness: u64, mass: u64) -> u64
+    requires stiffness_small { stiffness ≤ 2 ^ 55 }
     requires mass_small { mass ≤ 2 ^ 40 }
-    ensures value { result ≡ ratio * root_of (stiffness * c * mass) }
-    ensures size { result ≤ 2 ^ 66 }
+    ensures value { ratio * result ≡ ratio * root_of (stiffness * mass) }
+    ensures size { result ≤ 2 ^ 48 }
 {
     if ratio == 0 {
         return 0;
     }
-    ratio as u128 * damping_root(stiffness, c, mass) as u128
+    root_between(stiffness, mass)
 }
 
-/// The root of stiffness, contact radius and mass.
-fn damping_root(stiffness: u32, c: u64, mass: u64) -> u64
-    requires stiffness_small { stiffness ≤ 2 ^ 28 }
-    requires radius_small { c ≤ 2 ^ 27 }
+/// The root of a product of a stiffness, a contact radius and a mass.
+fn root_between(stiffness: u64, mass: u64) -> u64
+    requires stiffness_small { stiffness ≤ 2 ^ 55 }
     requires mass_small { mass ≤ 2 ^ 40 }
-    ensures value { result ≡ root_of (stiffness * c * mass) }
+    ensures value { result ≡ root_of (stiffness * mass) }
     ensures size { result ≤ 2 ^ 48 }
 {
-    root(stiffness as u128 * c as u128 * mass as u128)
+    root(stiffness as u128 * mass as u128)
+}
+
+/// What damping multiplies each speed by, times 2^32: the ratio times the root.
+pub fn damping_factor(ratio: u32, root: u64) -> u128
+    requires ratio_small { ratio ≤ 2 ^ 18 }
+    requires root_small { root ≤ 2 ^ 48 }
+    ensures value { result ≡ ratio * root }
+    ensures size { result ≤ 2 ^ 66 }
+{
+    ratio as u128 * root as u128
 }
 
 /// The damping force at one speed.
@@ -69,11 +76,11 @@ pub fn normal_force(law: &Law, c: u64, delta: u64, mass: u64, speed: i64) -> u64
     ensures size { result ≤ 2 ^ 62 }
 {
     let stiffness = law.kn as u64 * c;
-    let factor = damping_factor(law.bn, law.kn, c, mass);
-    if stiffness <= NARROW_STIFFNESS && factor <= NARROW_FACTOR && is_slow(speed) {
-        narrow_press(stiffness, factor as u64, delta, speed)
+    let root = damping_root(law.bn, stiffness, mass);
+    if stiffness <= NARROW_STIFFNESS && root <= NARROW_ROOT && is_slow(speed) {
+        narrow_press(stiffness, narrow_factor(law.bn, root), delta, speed)
     } else {
-        wide_press(stiffness, factor, delta, speed)
+        wide_press(stiffness, damping_factor(law.bn, root), delta, speed)
     }
 }
 

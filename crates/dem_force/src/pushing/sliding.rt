@@ -25,8 +25,10 @@ ghost use Rattle.dem_model.specs.Ranges.{IsLaw};
 ghost use Rattle.dem_force.specs.Narrow.{pull_of, pulls_of};
 
 use crate::pushing::motion::part_across;
-use crate::pushing::narrow::{NARROW_FACTOR, NARROW_STIFFNESS, are_slow, narrow_trial};
-use crate::pushing::normal::{damping, damping_factor};
+use crate::pushing::narrow::{
+    NARROW_ROOT, NARROW_STIFFNESS, are_slow, narrow_factor, narrow_trial,
+};
+use crate::pushing::normal::{damping, damping_factor, damping_root};
 use dem_model::{Law, MAX_DISPLACEMENT, MAX_FORCE};
 use dem_num::{Vec3, ZERO, add3_short, cl, mul, narrow, negated, root, sh, sub, tdiv};
 
@@ -89,23 +91,11 @@ pub fn trial(law: &Law, c: u64, mass: u64, h: Vec3, slip: Vec3) -> Vec3
     ensures size { Within (widened result) (2 ^ 62) }
 {
     let stiffness = law.kt as u64 * c;
-    let factor = damping_factor(law.bt, law.kt, c, mass);
-    any_trial(stiffness, factor, h, slip)
-}
-
-/// The tangential force before friction bounds it, from the factors of displacement and of speed.
-fn any_trial(stiffness: u64, factor: u128, h: Vec3, slip: Vec3) -> Vec3
-    requires stiffness_small { stiffness ≤ 2 ^ 55 }
-    requires factor_small { factor ≤ 2 ^ 66 }
-    requires held_small { Within (widened h) MAX_DISPLACEMENT }
-    requires slip_small { Within (widened slip) (2 ^ 51) }
-    ensures value { widened result ≡ pulls_of stiffness factor h slip }
-    ensures size { Within (widened result) (2 ^ 62) }
-{
-    if stiffness <= NARROW_STIFFNESS && factor <= NARROW_FACTOR && are_slow(slip) {
-        narrow_trial(stiffness, factor as u64, h, slip)
+    let root = damping_root(law.bt, stiffness, mass);
+    if stiffness <= NARROW_STIFFNESS && root <= NARROW_ROOT && are_slow(slip) {
+        narrow_trial(stiffness, narrow_factor(law.bt, root), h, slip)
     } else {
-        wide_trial(stiffness, factor, h, slip)
+        wide_trial(stiffness, damping_factor(law.bt, root), h, slip)
     }
 }
 

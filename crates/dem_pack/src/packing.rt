@@ -70,9 +70,9 @@ fn stretch(low: i64, high: i64) -> Stretch
     }
 }
 
-// The layout of an ask, for a template of this extent.
+/// The layout of an ask, for a template of this extent.
 #[tactic(auto, unfolding(crate::specs::Asks::lattice_of, dem_model::specs::Cells::grid, dem_model::specs::Cells::staggered, dem_model::specs::Cells::pitch_of))]
-fn layout(ask: &Ask, extent: u64) -> Layout
+pub(crate) fn layout(ask: &Ask, extent: u64) -> Layout
     requires ask { IsAsk ask.now }
     requires some { 1 ≤ extent }
     requires few { extent ≤ 2 ^ 27 }

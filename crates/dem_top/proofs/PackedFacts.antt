@@ -36,16 +36,16 @@ module _ (count : ℕ) (text row : List ℕ) (s : SceneValue) (is : scene_from t
   verdict = on_scene (packed count text row) (scene_from text)
 
   -- what the scene and the row come to
-  by-row : (o : Option Ask) → ask_of row count ≡ o → verdict ≡ by_ask text s o
+  by-row : (o : Option Ask) → ask_of count row ≡ o → verdict ≡ by_ask text s o
   unfolding packed
   by-row o asks = ap (on_scene (packed count text row)) is ∙ ap (by_ask text s) asks
 
   -- the row is none
-  pub no-row : (out note : Stream) → ask_of row count ≡ None → Comes verdict (idle out) (idle note) (Err (stops.Refused refusals.NoRow))
+  pub no-row : (out note : Stream) → ask_of count row ≡ None → Comes verdict (idle out) (idle note) (Err (stops.Refused refusals.NoRow))
   no-row out note none = (by-row None none, Keeps-refl out.bytes, Keeps-refl note.bytes, refl, refl)
 
   -- it is one, and this came of it
-  pub asked : (out : Change) (note : Stream) (ask : Ask) (result : Result Outcome NotDone) → ask_of row count ≡ Some ask → Comes (by_stands text (answer_of s ask)) out (idle note) result → Comes verdict out (idle note) result
+  pub asked : (out : Change) (note : Stream) (ask : Ask) (result : Result Outcome NotDone) → ask_of count row ≡ Some ask → Comes (by_stands text (answer_of s ask)) out (idle note) result → Comes verdict out (idle note) result
   asked out note ask result asks comes = subst (λ v. Comes v out (idle note) result) (sym (by-row (Some ask) asks)) comes
 
 -- ---- the packing

@@ -61,7 +61,7 @@ by_ask text s (Some ask) = by_stands text (answer_of s ask)
 
 -- what a row comes to that asks for so many clumps
 unfoldable pub packed : ℕ → (text row : List ℕ) → SceneValue → Verdict
-packed count text row s = by_ask text s (ask_of row count)
+packed count text row s = by_ask text s (ask_of count row)
 
 -- what an input of `pack` comes to
 abbrev pub pack_verdict : ℕ → List ℕ → Verdict

@@ -61,9 +61,9 @@ module _ (text : List ℕ) (answer : Result (List Stand) PackFault) where
       ⊎_elim
       (λ (e : fault ≡ faults.OutOfMemory). subst (λ x. Comes (by_stands text answer) (idle out) (idle note) (Err (pack_stop x))) (sym e) (begins-nothing (by_stands text answer) out note, refl, refl))
       (λ (e : answer ≡ Err fault). subst (λ a. Comes (by_stands text a) (idle out) (idle note) (Err (pack_stop fault))) (sym e) (refused fault)) why where
-    refused : (fault : PackFault) → Comes (by_stands text (Err fault)) (idle out) (idle note) (Err (pack_stop fault))
-    refused faults.OutOfMemory = (begins-nothing (by_stands text (Err faults.OutOfMemory)) out note, refl, refl)
-    refused fault = (refl, Keeps-refl out.bytes, Keeps-refl note.bytes, refl, refl)
+        refused : (fault : PackFault) → Comes (by_stands text (Err fault)) (idle out) (idle note) (Err (pack_stop fault))
+        refused faults.OutOfMemory = (begins-nothing (by_stands text (Err faults.OutOfMemory)) out note, refl, refl)
+        refused fault = (refl, Keeps-refl out.bytes, Keeps-refl note.bytes, refl, refl)
 
   module _ (stands : List Stand) (is : answer ≡ Ok stands) (out : Change) (note : Stream) where
     -- the scene was written

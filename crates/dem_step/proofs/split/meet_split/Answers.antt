@@ -16,6 +16,6 @@ sum_up-requires-clause-each g c =
     let size : length c.compute.new.pushes ≡ c.args.room.now.pushes.len = omega (arith, c.compute.ensures.room, c.as_mut_slice.ensures.len) in
     let same : c.as_slice-2.result.now ≡ c.compute.new.pushes = c.as_slice-2.ensures.value ∙ with_items_is c.args.room.now.pushes c.compute.new.pushes size in
     λ rank lt i there.
-        let before : rank < length c.as_mut_slice.result.now = omega (arith, lt, ap length same, c.compute.ensures.room) in
-        subst (λ (ps : List (Option Push)). IsPushAt c.args.shapes.now c.args.bodies.now c.args.spheres.now.centers c.args.contacts.now i (slice_index_or ps rank None)) (sym same)
-        (c.compute.ensures.each rank before i (ap (λ (xs : List ℕ). slice_get xs rank) (c.as_slice.ensures.value ∙ sym c.as_slice-3.ensures.value) ∙ there))
+    let before : rank < length c.as_mut_slice.result.now = omega (arith, lt, ap length same, c.compute.ensures.room) in
+    subst (λ (ps : List (Option Push)). IsPushAt c.args.shapes.now c.args.bodies.now c.args.spheres.now.centers c.args.contacts.now i (slice_index_or ps rank None)) (sym same)
+    (c.compute.ensures.each rank before i (ap (λ (xs : List ℕ). slice_get xs rank) (c.as_slice.ensures.value ∙ sym c.as_slice-3.ensures.value) ∙ there))

@@ -1,7 +1,8 @@
-//! The program `dem_bench`: a dense bed of 8,000 spheres, and steps on one list of its near pairs.
+//! The program `dem_bench`: steps on one list of near pairs, of a scene or of a dense bed of 8,000 spheres.
 //!
-//! It makes the text of the bed, reads it, lists the near pairs of the first state once, and makes as many steps as its first
-//! argument says, 100 where there is none. It prints what it did, the same at each run; scripts/bench times it.
+//! It reads the scene on standard input, or makes the text of the bed where that is empty, lists the near pairs of the first
+//! state once, and makes as many steps as its first argument says, 100 where there is none. The second argument is the drift
+//! limit, 100 where there is none. It prints what it did, the same at each run; scripts/bench times it.
 //! Not here: what a step does (dem_step), which pairs are near (dem_margin).
 #![tactic(auto)]
 
@@ -9,40 +10,54 @@ mod bed;
 mod stepping;
 mod tally;
 
-use anyhow::{Context, Result, anyhow};
+use anyhow::{Context, Result, anyhow, bail};
 use bed::bed_text;
 use dem_model::Scene;
 use dem_scene::read_scene;
 use std::alloc::Global;
 use std::env;
-use std::rt::Env;
-use stepping::run_bed;
+use std::io::read_to_string;
+use stepping::run_scene;
 
 /// The steps that are made where no argument says how many.
 const STEPS: u32 = 100;
 
+/// The greatest age of the list, in steps, where no argument tells it.
+const DRIFT: u32 = 100;
+
+/// The greatest age that an argument may ask for.
+const MOST: u32 = 1024;
+
 fn main(rt: HostRuntime) -> Result<()> {
-    let wanted = steps_wanted(&rt)?;
-    let scene = bed_scene(rt.alloc())?;
-    let tally = run_bed(rt.alloc(), &scene, wanted)?;
+    let words: Vec<String> = env::args(&rt)?.collect(rt.alloc())?;
+    let wanted = number_at(words.as_slice(), 1, STEPS).context("the number of steps")?;
+    let drift = number_at(words.as_slice(), 2, DRIFT).context("the drift limit")?;
+    if drift > MOST {
+        bail!("the drift limit is over {MOST}");
+    }
+    let scene = given_scene(rt.alloc(), read_to_string(rt.alloc(), rt.stdin())?)?;
+    let tally = run_scene(rt.alloc(), &scene, drift, wanted)?;
     println!(rt; "{tally}")?;
     Ok(())
 }
 
-/// The number of steps that the first argument asks for.
-fn steps_wanted(rt: &(impl Env + AllocGlobal)) -> Result<u32> {
-    let words: Vec<String> = env::args(rt)?.collect(rt.alloc())?;
-    match words.get(1) {
-        Some(word) => word.parse::<u32>().context("the number of steps"),
-        None => Ok(STEPS),
+/// The number that an argument gives, or this one where it is missing.
+fn number_at(words: &[String], place: usize, default: u32) -> Result<u32> {
+    match words.get(place) {
+        Some(word) => Ok(word.parse::<u32>()?),
+        None => Ok(default),
     }
 }
 
-/// The scene of the bed.
-fn bed_scene(alloc: Global) -> Result<Scene> {
-    let text = bed_text(alloc)?;
+/// The scene of a text, or of the bed where the text is empty.
+fn given_scene(alloc: Global, given: String) -> Result<Scene> {
+    let text = if given.is_empty() {
+        bed_text(alloc)?
+    } else {
+        given
+    };
     match read_scene(alloc, text.as_bytes()) {
         Ok(scene) => Ok(scene),
-        Err(fault) => Err(anyhow!("the bed is no scene: {fault:?}")),
+        Err(fault) => Err(anyhow!("not a scene: {fault:?}")),
     }
 }

@@ -1,6 +1,6 @@
 //! Steps on one list of near pairs, made from the first state.
 
-ghost use Rattle.std.specs.Prelude.{◌≡◌, ◌<◌, IfOk};
+ghost use Rattle.std.specs.Prelude.{◌≡◌, ◌<◌, ◌≤◌, IfOk};
 ghost use Rattle.dem_step.specs.Stepper.{IsListOfRun};
 
 use crate::tally::{Tally, touching};
@@ -14,15 +14,15 @@ use std::alloc::Global;
 use std::marker::Brand;
 use std::sync::ledger::{Blank, Ledger};
 
-/// The greatest age of the list, in steps.
-const DRIFT: u32 = 100;
-
-/// Makes so many steps of a scene on one list, or fewer where the run or the list ends, and tells what was done.
-pub fn run_bed(alloc: Global, scene: &Scene, wanted: u32) -> Result<Tally> {
+/// Makes so many steps of a scene on one list, or fewer where the run or the list ends, and tells what was done. The list may be
+/// used up to this age, in steps.
+pub fn run_scene(alloc: Global, scene: &Scene, drift: u32, wanted: u32) -> Result<Tally>
+    requires drift { drift ≤ 1024 }
+{
     let Ok(shapes) = Shapes::new(alloc, scene) else {
         bail!("out of memory");
     };
-    let Ok(mut run) = Dyn::new(alloc, &shapes, DRIFT) else {
+    let Ok(mut run) = Dyn::new(alloc, &shapes, drift) else {
         bail!("out of memory");
     };
     take_list(alloc, &mut run)?;

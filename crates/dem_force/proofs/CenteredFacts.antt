@@ -1,18 +1,16 @@
--- Clumps whose spheres all stand where the clump does: turning moves none of them.
-use Rattle.std.proofs.Common.{◌≡◌, ℕ, true, false, List, get_or, arith, refl, ap, ◌∙◌, inl, inr}
+-- Clumps whose spheres all stand where the clump does: they leave the box where it does.
+use Rattle.std.proofs.Common.{◌≡◌, true, false, List, get_or, refl, ap, ◌∙◌, inl, inr}
 use Rattle.std.specs.Prelude.{not, All}
 use Rattle.std.specs.List.{list_any}
 use Rattle.std.proofs.lemmas.Bool.{cases_Bool, not-false}
-use Rattle.std.proofs.lemmas.Bool.Decides.{nat_tests}
 use Rattle.std.proofs.lemmas.List.Folds.{list_any_none}
-use Rattle.dem_num.specs.declared.vector.Wide3.{Wide3}
-use Rattle.dem_num.specs.Vectors.{widened, is_zero, no_vector, difference_of}
-use Rattle.dem_num.specs.Rotations.{matrix_of, turned_of, arm_of, swing_limit_of}
-use Rattle.dem_turn.proofs.StillFacts.{turned_zero, sum_turned_zero}
+use Rattle.dem_num.specs.Vectors.{widened, is_zero}
+use Rattle.dem_num.specs.Rotations.{matrix_of}
+use Rattle.dem_turn.proofs.StillFacts.{sum_turned_zero}
 use Rattle.dem_model.specs.SceneValue.{SceneValue}
 use Rattle.dem_model.specs.Position.{in_box}
 use Rattle.dem_model.specs.Spheres.{center_of}
-use Rattle.dem_model.specs.Advance.{is_over, leaves_box, swings}
+use Rattle.dem_model.specs.Advance.{leaves_box}
 use Rattle.dem_model.specs.declared.shape.Ball.{Ball}
 use Rattle.dem_model.specs.declared.state.Body.{Body}
 use Rattle.dem_force.proofs.LimitFacts.{none_pass}
@@ -41,20 +39,3 @@ own_leaves s balls b h = elim (cases_Bool (in_box s (widened b.p))) [
   | inl t ↦ rw (t, none_outside s balls b (each_centered balls h) t) refl
   | inr f ↦ rw f refl
 ]
-
-over_nothing : (limit : ℕ) → is_over limit (difference_of no_vector no_vector) ≡ false
-unfolding is_over
-over_nothing limit = grind (arith, nat_tests)
-
--- such a sphere does not swing
-still : (limit : ℕ) (old new : Body) (o : Wide3) → is_zero o ≡ true → is_over limit (difference_of (turned_of new.q o) (turned_of old.q o)) ≡ false
-still limit old new o h = rw (turned_zero (matrix_of new.q) o h, turned_zero (matrix_of old.q) o h) (over_nothing limit)
-
--- none of them swings
-pub own_swings : (spin : ℕ) (balls : List Ball) (old new : Body) → list_any (λ (x : Ball). not (is_zero (widened x.at))) balls ≡ false
-    → swings spin balls old new ≡ false
-unfolding swings
-own_swings spin balls old new h =
-    let each = each_centered balls h in
-    list_any_none (λ (x : Ball). is_over (swing_limit_of spin (arm_of (widened x.at))) (difference_of (turned_of new.q (widened x.at)) (turned_of old.q (widened x.at)))) balls
-    (λ i d lt. still (swing_limit_of spin (arm_of (widened (get_or balls i d).at))) old new (widened (get_or balls i d).at) (each i d lt))

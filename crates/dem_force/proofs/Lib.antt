@@ -7,4 +7,6 @@ pub mod RangeFacts
 pub mod SideFacts
 pub mod SlideFacts
 pub mod SumFacts
+pub mod SwingFacts
+pub mod SwingLaw
 pub mod TouchFacts

@@ -9,8 +9,8 @@ use csv::ByteRecord;
 use itoa::Buffer;
 use std::str;
 
-// The number whose decimal form the field is.
-fn number(field: &[u8]) -> Option<i64>
+/// The number whose decimal form the field is: without a leading zero, `-` before a negative one, within 64 bits with its sign.
+pub fn read_number(field: &[u8]) -> Option<i64>
     ensures { result ≡ number_of field.now }
 {
     let Ok(text) = str::from_utf8(field) else {
@@ -54,7 +54,7 @@ fn numbers_behind(row: &ByteRecord, count: usize) -> Option<Numbers>
         let Some(field) = row.get(i + 1) else {
             return None;
         };
-        let Some(number) = number(field) else {
+        let Some(number) = read_number(field) else {
             return None;
         };
         numbers.push(number);

@@ -29,3 +29,6 @@ pub mod Exchange
 pub mod ExchangeKinds
 pub mod ExchangeSteps
 pub mod Made
+pub mod Stands
+pub mod Cells
+pub mod Packing

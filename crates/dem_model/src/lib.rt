@@ -29,5 +29,5 @@ pub use limits::{
 pub use list::{List, OutOfMemory};
 pub use scene::Scene;
 pub use shape::{Axis, Ball, Form, Material, Template, Wall};
-pub use state::{Body, Clump, End, EndKind, Held, Last, Pair, State, TakenRow, Turn};
+pub use state::{Body, Clump, End, EndKind, Held, Last, Pair, Stand, State, TakenRow, Turn};
 pub use steps::Steps;

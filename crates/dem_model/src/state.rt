@@ -1,4 +1,4 @@
-//! What a run is made of: bodies, pairs, states, ends, turns and taken rows.
+//! What a run is made of: bodies, stands, pairs, states, ends, turns and taken rows.
 
 use crate::list::List;
 use dem_num::{Quat, Vec3};
@@ -17,6 +17,13 @@ pub struct Body {
 pub struct Clump {
     pub t: u32,
     pub body: Body,
+}
+
+/// A place for a clump at rest: the number of its template, and its position.
+#[derive(Clone, Copy, PartialEq, Debug)]
+pub struct Stand {
+    pub t: u32,
+    pub p: Vec3,
 }
 
 /// A sphere and a later sphere or wall, by number; walls are numbered after all spheres.

@@ -2,14 +2,15 @@
 
 ghost use Rattle.std.specs.Prelude.{◌≡◌, ◌*◌, ◌/◌, ◌^◌, ◌<◌};
 
-use crate::guess::{found, high};
+use crate::guess::high;
+use crate::starts::start;
 
 /// About 2^127 over a divisor, of which the leading zeros are cut. Nothing rests on it: what is guessed by it is tested.
 pub fn reciprocal(whole: u64) -> u64 {
     let scaled = whole << (whole.leading_zeros() & 63);
-    let root = found(scaled);
-    let rough = (root * root) << 33;
-    refined(scaled, refined(scaled, refined(scaled, rough)))
+    let root = start(scaled);
+    let rough = root.wrapping_mul(root) << 3;
+    refined(scaled, refined(scaled, rough))
 }
 
 /// One step of Newton. The small number taken away is to keep it below, in spite of the rounding.

@@ -13,6 +13,7 @@ mod products;
 mod rounded;
 mod shares;
 mod small;
+mod starts;
 #[cfg(test)]
 mod tests;
 mod vector;

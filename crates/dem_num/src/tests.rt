@@ -69,12 +69,12 @@ fn works_on_each_axis(rt: HostRuntime) {
 /// The guess is the root or one less, so that the slow way is not taken.
 #[test]
 fn guesses_well(rt: HostRuntime) {
-    for x in [1u64, 3, 99, 1 << 20, 12345678901234567, (1 << 58) - 1] {
+    for x in [1u64, 3, 99, 1 << 20, 12345678901234567, (1 << 62) - 1] {
         let missing = root(x as u128).wrapping_sub(short_guess(x));
         assert!(rt; missing <= 1);
     }
     for x in [
-        1u128 << 58,
+        1u128 << 62,
         (1 << 80) + 7,
         (1 << 126) - 1,
         1 << 126,

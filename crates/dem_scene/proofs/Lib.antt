@@ -6,3 +6,10 @@ pub mod TableFacts
 pub mod PlaceFacts
 pub mod JsonFacts
 pub mod LengthFacts
+pub mod OrderFacts
+pub mod FitFacts
+pub mod ReadFacts
+pub mod KindFacts
+pub mod PartFacts
+pub mod StandFacts
+pub mod ReplaceFacts

@@ -2,3 +2,4 @@ pub mod Gives
 pub mod Walls
 pub mod Clumps
 pub mod Table
+pub mod Stands

@@ -13,7 +13,7 @@ use std::alloc::Global;
 
 /// The value tree of some bytes.
 #[tactic(auto, using(crate::proofs::JsonFacts::json_ok, crate::proofs::JsonFacts::json_err))]
-fn tree(alloc: Global, bytes: &[u8]) -> Result<Value, SceneFault>
+pub(crate) fn tree(alloc: Global, bytes: &[u8]) -> Result<Value, SceneFault>
     ensures ok { IfOk result (λ v. json_of bytes.now ≡ Ok (view v)) }
     ensures err { IfErr result (λ fault. Fails fault (json_of bytes.now)) }
 {

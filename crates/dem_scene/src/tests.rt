@@ -1,7 +1,9 @@
 //! Rows of scene texts, each with the line that it is refused with, and one text with each kind of object.
 
+use crate::read::tree;
+use crate::stand::text_with_clumps;
 use crate::{Line, fault_line, read_scene};
-use dem_model::{Axis, Ball, Form, Material};
+use dem_model::{Axis, Ball, Form, List, Material, OutOfMemory, Stand};
 use dem_num::{Quat, Vec3};
 use std::alloc::{AllocError, Global};
 use std::test::Fail;
@@ -237,5 +239,44 @@ fn counts_clumps_and_spheres(rt: HostRuntime) -> Result<(), Fail> {
             "{clumps} {spheres}"
         );
     }
+    Ok(())
+}
+
+/// A stand of the first template.
+fn stand_at(x: i64) -> Stand {
+    Stand {
+        t: 0,
+        p: Vec3 { x, y: 10, z: 10 },
+    }
+}
+
+/// The text of a scene with stands as its clumps.
+fn stood(alloc: Global, text: &str, stands: &[Stand]) -> Result<List<u8>, OutOfMemory> {
+    match tree(alloc, text.as_bytes()) {
+        Ok(value) => text_with_clumps(alloc, value, stands),
+        Err(_) => Err(OutOfMemory),
+    }
+}
+
+/// The least scene with three stands.
+const LEAST_WITH_THREE: &str =
+    r#"{"box":[1,1,1],"clumps":[{"p":[10,10,10],"t":0},{"p":[30,10,10],"t":0},{"p":[50,10,10],"t":0}],"every":1,"materials":[{"kn":1}],"speed":65536,"spin":1024,"steps":0,"templates":[{"mass":1,"moments":[1,1,1],"spheres":[{"at":[0,0,0],"mat":0,"r":10}]}],"version":1}"#;
+
+/// The scene of every name with one stand.
+const WHOLE_WITH_ONE: &str =
+    r#"{"box":[2,3,4],"clumps":[{"p":[30,10,10],"t":0}],"every":6,"gravity":[0,-1,7],"materials":[{"bn":7,"bt":6,"kn":9,"kt":8,"mu":5},{"kn":1}],"speed":65536,"spin":1024,"steps":5,"templates":[{"mass":3,"moments":[4,5,6],"spheres":[{"at":[0,0,0],"mat":0,"r":10},{"at":[-20,0,0],"mat":1,"r":11}]}],"version":1,"walls":[{"mat":1,"plane":{"at":[0,0,1],"dir":[0,0,-1]}},{"cylinder":{"at":[0,0,2],"axis":"y","r":12},"mat":0}]}"#;
+
+#[test]
+fn writes_stands_as_the_clumps(rt: HostRuntime) -> Result<(), Fail> {
+    let three = [stand_at(10), stand_at(30), stand_at(50)];
+    assert_eq!(rt;
+        stood(rt.alloc(), LEAST, &three)?.as_slice(),
+        LEAST_WITH_THREE.as_bytes()
+    );
+    let one = [stand_at(30)];
+    assert_eq!(rt;
+        stood(rt.alloc(), WHOLE, &one)?.as_slice(),
+        WHOLE_WITH_ONE.as_bytes()
+    );
     Ok(())
 }

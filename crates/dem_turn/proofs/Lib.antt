@@ -1,3 +1,13 @@
 pub mod Arms
+pub mod Close
+pub mod ExactTurn
+pub mod FormGaps
+pub mod FormTerms
+pub mod Identity
+pub mod Near
+pub mod OneRow
 pub mod StepLength
+pub mod StepSwing
 pub mod StillFacts
+pub mod Truncation
+pub mod TurnLaws

@@ -1,8 +1,9 @@
 //! One step of spin: where the quaternion points after it, brought back to length one.
 
-ghost use Rattle.std.specs.Prelude.{◌≡◌, pos, ◌+◌, ◌*◌, ◌^◌, ◌<◌, ◌≤◌, ◌+ℤ◌, ◌-ℤ◌, ◌*ℤ◌, true, unsigned_abs};
+ghost use Rattle.std.specs.Prelude.{◌≡◌, ℕ, pos, ◌+◌, ◌*◌, ◌^◌, ◌<◌, ◌≤◌, ◌+ℤ◌, ◌-ℤ◌, ◌*ℤ◌, true, unsigned_abs};
+ghost use Rattle.dem_num.specs.declared.vector.Wide3.{Wide3};
 ghost use Rattle.dem_num.specs.Numbers.{AtMost, IsRoot, root_of, quotient, opposite};
-ghost use Rattle.dem_num.specs.Vectors.{widened, is_zero, Within};
+ghost use Rattle.dem_num.specs.Vectors.{widened, is_zero, difference_of, Within};
 ghost use Rattle.dem_num.specs.Rotations.{
   quat_norm2_of,
   QuatWithin,
@@ -14,6 +15,9 @@ ghost use Rattle.dem_num.specs.Rotations.{
   stepped_of,
   unit_quat_of,
   turn_step_of,
+  turned_of,
+  arm_of,
+  swing_limit_of,
 };
 
 use crate::still::is_zero;
@@ -27,6 +31,7 @@ pub fn turn_step(q: Quat, w: Vec3) -> Quat
     ensures value { result ≡ turn_step_of q (widened w) }
     ensures without_spin { is_zero (widened w) ≡ true → result ≡ q }
     ensures orientation { IsOrientation result }
+    ensures swing { (o : Wide3) (spin : ℕ) → Within (widened w) spin → Within (difference_of (turned_of result o) (turned_of q o)) (swing_limit_of spin (arm_of o)) }
 {
     if is_zero(w) { q } else { unit(stepped(q, w)) }
 }

@@ -52,6 +52,7 @@ fn limits_the_swing(rt: HostRuntime) {
     assert_eq!(rt; arm(Vec3 { x: 0, y: 0, z: 0 }), 0);
     assert_eq!(rt; swing_limit(1000, 501), 8);
     assert_eq!(rt; swing_limit(1 << 28, 1 << 26), 33554444);
+    assert_eq!(rt; swing_limit(1 << 28, 1048577), 524296);
 }
 
 #[test]

@@ -1,6 +1,6 @@
 //! One clump's step as a whole: its body after the step, or the limit that it passes.
 
-ghost use Rattle.std.specs.Prelude.{◌≡◌, ◌<◌, ◌^◌, IfOk, Some, length, slice_get};
+ghost use Rattle.std.specs.Prelude.{◌≡◌, ◌≢◌, ◌<◌, ◌^◌, IfOk, IfErr, Some, length, slice_get};
 ghost use Rattle.dem_num.specs.Vectors.{Within};
 ghost use Rattle.dem_model.specs.Advance.{
   velocity_after,
@@ -20,7 +20,7 @@ use dem_num::Wide3;
 use dem_shape::Shapes;
 
 /// The body of a clump after a step under the sums of its forces and of its torques in world axes, or the first limit
-/// that it passes: speed, spin, domain, swing.
+/// that it passes: speed, spin, domain. No step passes the fourth, the swing limit.
 pub fn advance(
     shapes: &Shapes,
     clump: u32,
@@ -34,6 +34,7 @@ pub fn advance(
     requires torque { Within torque (2 ^ 114) }
     ensures value { result ≡ advance_of shapes.now (clump_at shapes.now clump).t body.now (record { force = force; torque = torque }) }
     ensures sound { IfOk result (IsBodyOf shapes.now (clump_at shapes.now clump)) }
+    ensures unswung { IfErr result (λ e. e ≢ EndKind.Swing) }
 {
     let scene = shapes.scene();
     let t = template_number(scene, clump);
@@ -81,6 +82,7 @@ fn advance_as(
     requires force { Within force (2 ^ 84) }
     ensures value { result ≡ limited scene.now template.now.balls body.now (velocity_after scene.now.gravity template.now.mass body.now.v force) (spin_after template.now.moments body.now.w (body_torque_of body.now torque)) }
     ensures placed { IfOk result (IsPlaced scene.now template.now.balls) }
+    ensures unswung { IfErr result (λ e. e ≢ EndKind.Swing) }
 {
     let v = velocity(scene.gravity, template.mass, body.v, force);
     let w = spin(template.moments, body.w, body_torque(body, torque));

@@ -1,18 +1,15 @@
-//! The limits of a step: speed, spin, the box, and how far a sphere may swing.
+//! The limits of a step: speed, spin and the box. No step passes the swing limit, so nothing tests it.
 
-ghost use Rattle.std.specs.Prelude.{◌≡◌, ◌+◌, ◌*◌, ◌^◌, ◌<◌, ◌≤◌, ◌+ℤ◌, false, All, IfOk, length, not, if◌then◌else◌, unsigned_abs};
+ghost use Rattle.std.specs.Prelude.{◌≡◌, ◌≢◌, ◌+◌, ◌*◌, ◌^◌, ◌<◌, ◌≤◌, ◌+ℤ◌, false, All, IfOk, IfErr, length, not, if◌then◌else◌, unsigned_abs};
 ghost use Rattle.dem_num.specs.Numbers.{AtMost};
 ghost use Rattle.std.specs.List.{list_any};
-ghost use Rattle.dem_num.specs.Vectors.{widened, narrowed, difference_of, sum_of, is_zero, Within};
+ghost use Rattle.dem_num.specs.Vectors.{widened, narrowed, sum_of, is_zero, Within};
 ghost use Rattle.dem_num.specs.Rotations.{
   EntriesWithin,
   IsOrientation,
   matrix_of,
-  turned_by,
-  arm_of,
-  swing_limit_of,
 };
-ghost use Rattle.dem_model.specs.Advance.{is_over, leaves_box, swings, limited};
+ghost use Rattle.dem_model.specs.Advance.{is_over, leaves_box, limited};
 ghost use Rattle.dem_model.specs.Position.{in_voxels, in_box};
 ghost use Rattle.dem_model.specs.Sound.{IsBall};
 ghost use Rattle.dem_model.specs.Spheres.{center_of};
@@ -20,9 +17,9 @@ ghost use Rattle.dem_force.specs.Placed.{IsInside, IsPlaced};
 
 use crate::advancing::body::moved;
 use dem_model::{Ball, Body, EndKind, Scene, VOXEL};
-use dem_num::{Rows, Vec3, Wide3, narrow3, sub3, widen};
+use dem_num::{Rows, Vec3, Wide3, narrow3};
 use dem_shape::sphere_center;
-use dem_turn::{arm, is_zero, matrix, swing_limit, turned};
+use dem_turn::{is_zero, matrix};
 
 /// Whether some component is greater in size than the limit; a component at the limit is not.
 #[tactic(auto, unfolding(dem_model::specs::Advance::is_over))]
@@ -77,18 +74,6 @@ fn is_outside(scene: &Scene, body: &Body, rows: &Rows, ball: Ball) -> bool
     !in_box(scene, sphere_center(body.p, rows, ball.at))
 }
 
-/// Whether the turned offset of a sphere changes by more than its swing limit.
-fn swings_far(spin: u64, old: &Rows, new: &Rows, ball: Ball) -> bool
-    requires spin_small { spin ≤ 2 ^ 28 }
-    requires old_entries { EntriesWithin old.now (2 ^ 30) }
-    requires new_entries { EntriesWithin new.now (2 ^ 30) }
-    requires offset { Within (widened ball.at) (2 ^ 26) }
-    ensures { result ≡ is_over (swing_limit_of spin (arm_of (widened ball.at))) (difference_of (turned_by new.now (widened ball.at)) (turned_by old.now (widened ball.at))) }
-{
-    let swing = sub3(widen(turned(new, ball.at)), widen(turned(old, ball.at)));
-    is_over(swing_limit(spin, arm(ball.at)), swing)
-}
-
 /// Whether the center of some sphere lies outside the box.
 fn some_outside(scene: &Scene, body: &Body, rows: &Rows, balls: &[Ball]) -> bool
     requires rows { rows.now ≡ matrix_of body.now.q }
@@ -99,22 +84,6 @@ fn some_outside(scene: &Scene, body: &Body, rows: &Rows, balls: &[Ball]) -> bool
 {
     for ball in balls {
         if is_outside(scene, body, rows, *ball) {
-            return true;
-        }
-    }
-    false
-}
-
-/// Whether the turned offset of some sphere changes by more than its swing limit.
-fn some_swings(scene: &Scene, old: &Rows, new: &Rows, balls: &[Ball]) -> bool
-    requires old_entries { EntriesWithin old.now (2 ^ 30) }
-    requires new_entries { EntriesWithin new.now (2 ^ 30) }
-    requires offsets { All (IsBall (length scene.now.materials)) balls.now }
-    ensures { result ≡ list_any (λ x. is_over (swing_limit_of scene.now.spin (arm_of (widened x.at))) (difference_of (turned_by new.now (widened x.at)) (turned_by old.now (widened x.at)))) balls.now }
-{
-    let spin = scene.spin;
-    for ball in balls {
-        if swings_far(spin, old, new, *ball) {
             return true;
         }
     }
@@ -133,18 +102,6 @@ fn leaves(scene: &Scene, body: &Body, rows: &Rows, balls: &[Ball]) -> bool
     !in_box(scene, body.p) || some_outside(scene, body, rows, balls)
 }
 
-/// Whether a sphere swings too far between two bodies of a clump.
-#[tactic(auto, unfolding(dem_model::specs::Advance::swings))]
-fn swings_between(scene: &Scene, old: &Body, new: &Body, rows: &Rows, balls: &[Ball]) -> bool
-    requires old_orientation { IsOrientation old.now.q }
-    requires rows { rows.now ≡ matrix_of new.now.q }
-    requires entries { EntriesWithin rows.now (2 ^ 30) }
-    requires offsets { All (IsBall (length scene.now.materials)) balls.now }
-    ensures { result ≡ swings scene.now.spin balls.now old.now new.now }
-{
-    some_swings(scene, &matrix(old.q), rows, balls)
-}
-
 /// Whether some sphere stands elsewhere than its clump.
 fn some_off_center(balls: &[Ball]) -> bool
     ensures { result ≡ list_any (λ x. not (is_zero (widened x.at))) balls.now }
@@ -157,33 +114,31 @@ fn some_off_center(balls: &[Ball]) -> bool
     false
 }
 
-/// The new body, unless it or a sphere of it leaves the box, or a sphere swings too far: by the turned offsets.
-fn turned_in(scene: &Scene, balls: &[Ball], old: &Body, new: Body) -> Result<Body, EndKind>
-    requires old_orientation { IsOrientation old.now.q }
+/// The new body, unless it or a sphere of it leaves the box: by the turned offsets.
+fn turned_in(scene: &Scene, balls: &[Ball], new: Body) -> Result<Body, EndKind>
     requires new_orientation { IsOrientation new.q }
     requires place { Within (widened new.p) (2 ^ 37) }
     requires offsets { All (IsBall (length scene.now.materials)) balls.now }
-    ensures value { result ≡ (if leaves_box scene.now balls.now new then Err EndKind.Domain else (if swings scene.now.spin balls.now old.now new then Err EndKind.Swing else Ok new)) }
+    ensures value { result ≡ (if leaves_box scene.now balls.now new then Err EndKind.Domain else Ok new) }
     ensures same { IfOk result (λ b. b ≡ new) }
     ensures inside { IfOk result (IsInside scene.now balls.now) }
+    ensures unswung { IfErr result (λ e. e ≢ EndKind.Swing) }
 {
     let rows = matrix(new.q);
     if leaves(scene, &new, &rows, balls) {
         return Err(EndKind::Domain);
     }
-    if swings_between(scene, old, &new, &rows, balls) {
-        return Err(EndKind::Swing);
-    }
     Ok(new)
 }
 
-/// The new body, unless it leaves the box: where no sphere stands elsewhere than its clump, none can swing.
-#[tactic(auto, using(crate::proofs::CenteredFacts::own_leaves, crate::proofs::CenteredFacts::own_swings))]
-fn centered_in(scene: &Scene, balls: &[Ball], old: &Body, new: Body) -> Result<Body, EndKind>
+/// The new body, unless it leaves the box: where no sphere stands elsewhere than its clump, none leaves it alone.
+#[tactic(auto, using(crate::proofs::CenteredFacts::own_leaves))]
+fn centered_in(scene: &Scene, balls: &[Ball], new: Body) -> Result<Body, EndKind>
     requires centered { list_any (λ x. not (is_zero (widened x.at))) balls.now ≡ false }
-    ensures value { result ≡ (if leaves_box scene.now balls.now new then Err EndKind.Domain else (if swings scene.now.spin balls.now old.now new then Err EndKind.Swing else Ok new)) }
+    ensures value { result ≡ (if leaves_box scene.now balls.now new then Err EndKind.Domain else Ok new) }
     ensures same { IfOk result (λ b. b ≡ new) }
     ensures inside { IfOk result (IsInside scene.now balls.now) }
+    ensures unswung { IfErr result (λ e. e ≢ EndKind.Swing) }
 {
     if in_box(scene, new.p) {
         Ok(new)
@@ -192,20 +147,20 @@ fn centered_in(scene: &Scene, balls: &[Ball], old: &Body, new: Body) -> Result<B
     }
 }
 
-/// The new body, unless it or a sphere of it leaves the box, or a sphere swings too far.
-fn kept_in(scene: &Scene, balls: &[Ball], old: &Body, new: Body) -> Result<Body, EndKind>
-    requires old_orientation { IsOrientation old.now.q }
+/// The new body, unless it or a sphere of it leaves the box.
+fn kept_in(scene: &Scene, balls: &[Ball], new: Body) -> Result<Body, EndKind>
     requires new_orientation { IsOrientation new.q }
     requires place { Within (widened new.p) (2 ^ 37) }
     requires offsets { All (IsBall (length scene.now.materials)) balls.now }
-    ensures value { result ≡ (if leaves_box scene.now balls.now new then Err EndKind.Domain else (if swings scene.now.spin balls.now old.now new then Err EndKind.Swing else Ok new)) }
+    ensures value { result ≡ (if leaves_box scene.now balls.now new then Err EndKind.Domain else Ok new) }
     ensures same { IfOk result (λ b. b ≡ new) }
     ensures inside { IfOk result (IsInside scene.now balls.now) }
+    ensures unswung { IfErr result (λ e. e ≢ EndKind.Swing) }
 {
     if some_off_center(balls) {
-        turned_in(scene, balls, old, new)
+        turned_in(scene, balls, new)
     } else {
-        centered_in(scene, balls, old, new)
+        centered_in(scene, balls, new)
     }
 }
 
@@ -223,6 +178,7 @@ pub fn within_limits(
     requires offsets { All (IsBall (length scene.now.materials)) balls.now }
     ensures value { result ≡ limited scene.now balls.now body.now v w }
     ensures placed { IfOk result (IsPlaced scene.now balls.now) }
+    ensures unswung { IfErr result (λ e. e ≢ EndKind.Swing) }
 {
     if is_too_fast(scene, v) {
         return Err(EndKind::Speed);
@@ -230,5 +186,5 @@ pub fn within_limits(
     if spins_too_fast(scene, w) {
         return Err(EndKind::Spin);
     }
-    kept_in(scene, balls, body, moved(body, narrow3(v), narrow3(w)))
+    kept_in(scene, balls, moved(body, narrow3(v), narrow3(w)))
 }

@@ -3,3 +3,4 @@
 pub mod body;
 pub mod clump;
 pub mod limits;
+pub mod unswung;

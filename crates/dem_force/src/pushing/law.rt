@@ -7,12 +7,12 @@ ghost use Rattle.dem_model.specs.declared.limits.TheConstants.{MAX_DISPLACEMENT}
 ghost use Rattle.dem_model.specs.Ranges.{IsLaw, IsBounded, IsFirst, IsSecond, IsTouch, IsSmall};
 
 use crate::pushing::mixing::{effective_mass, effective_radius};
-use crate::pushing::motion::{contact_radius, motion_between};
+use crate::pushing::motion::{contact_radius, depth, motion_between};
 use crate::pushing::normal::normal_force;
-use crate::pushing::push::{force_on_first, torque_on_first, torque_on_second};
+use crate::pushing::push::{force_on_first, rubbing, torque_on_first, torque_on_second};
 use crate::pushing::sliding::{carried, friction_bound, gripped, trial};
 use dem_model::{Law, Push, Side, Touch};
-use dem_num::{Vec3, Wide3};
+use dem_num::Vec3;
 
 /// What a contact does: the force on `a` (`b` feels the opposite), the torques on both in world axes, and the new
 /// displacement. `a` is the side that the normal pushes along it; `h0` is the stored displacement, zero where none is.
@@ -51,7 +51,7 @@ fn pushed(law: &Law, a: &Side, b: &Side, n: Vec3, delta: u64, h0: Vec3) -> Push
 }
 
 /// What a contact does, once the normal force, the displacement and the trial of the tangential force are known.
-#[tactic(auto, unfolding(dem_model::specs::Law::push_with))]
+#[tactic(auto, unfolding(dem_model::specs::Law::push_with, dem_model::specs::Law::torque_a_of, dem_model::specs::Law::torque_b_of))]
 fn push_at(
     law: &Law,
     a: &Side,
@@ -60,7 +60,7 @@ fn push_at(
     delta: u64,
     normal: u64,
     h: Vec3,
-    trial: Wide3,
+    trial: Vec3,
 ) -> Push
     requires law { IsLaw law.now }
     requires first { IsBounded a.now }
@@ -68,16 +68,17 @@ fn push_at(
     requires direction { Within (widened n) (2 ^ 30) }
     requires normal_small { normal ≤ 2 ^ 62 }
     requires held { Within (widened h) MAX_DISPLACEMENT }
-    requires trial_small { Within trial (2 ^ 62) }
-    ensures value { result ≡ push_with law.now a.now b.now n delta normal h trial }
+    requires trial_small { Within (widened trial) (2 ^ 62) }
+    ensures value { result ≡ push_with law.now a.now b.now n delta normal h (widened trial) }
     ensures size { IsSmall result }
 {
     let grip = gripped(law.kt, friction_bound(law.mu, normal), trial, h);
     let force = force_on_first(n, normal, grip.friction);
+    let rubbed = rubbing(depth(a.r, delta), depth(b.r, delta), n, grip.friction);
     Push {
         force,
-        torque_a: torque_on_first(a, n, delta, force, grip.friction),
-        torque_b: torque_on_second(b, n, delta, force, grip.friction),
+        torque_a: torque_on_first(a, force, rubbed.first),
+        torque_b: torque_on_second(b, force, rubbed.second),
         h: grip.h,
     }
 }

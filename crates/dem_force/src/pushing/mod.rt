@@ -4,6 +4,7 @@ pub mod law;
 pub mod meeting;
 pub mod mixing;
 pub mod motion;
+pub mod narrow;
 pub mod normal;
 pub mod pairwise;
 pub mod push;

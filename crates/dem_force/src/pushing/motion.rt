@@ -18,8 +18,7 @@ ghost use Rattle.dem_model.specs.Ranges.{IsBounded};
 
 use dem_model::Side;
 use dem_num::{
-    Vec3, Wide3, add3_short, dot, mul, mul_short, root, sh, sh_short, short, short3, sub_short,
-    sub3, sub3_short, widen,
+    Vec3, add3_short, dot, mul, mul_short, narrow, root, sh, sh_short, sub_short, sub3_short, widen,
 };
 
 /// The radius of the contact's circle, in u, from the effective radius and the overlap.
@@ -43,23 +42,33 @@ pub fn depth(r: u32, delta: u64) -> u64
 }
 
 /// A component of a vector along the normal.
-pub fn component_along(length: i128, n: i64) -> i128
+fn component_along(length: i64, n: i64) -> i64
     requires length_small { AtMost length (2 ^ 62) }
     requires normal { AtMost n (2 ^ 30) }
     ensures value { result ≡ shifted (length *ℤ n) 30 }
     ensures size { AtMost result (unsigned_abs length) }
 {
-    sh(mul(short(length), n as i128), 30)
+    narrow(wide_component(length, n))
+}
+
+/// A component of a vector along the normal, not yet at 64 bits.
+fn wide_component(length: i64, n: i64) -> i128
+    requires length_small { AtMost length (2 ^ 62) }
+    requires normal { AtMost n (2 ^ 30) }
+    ensures value { result ≡ shifted (length *ℤ n) 30 }
+    ensures size { AtMost result (unsigned_abs length) }
+{
+    sh(mul(length as i128, n as i128), 30)
 }
 
 /// A vector along the normal, of the given length.
-pub fn vector_along(length: i128, n: Vec3) -> Wide3
+pub fn vector_along(length: i64, n: Vec3) -> Vec3
     requires length_small { AtMost length (2 ^ 62) }
     requires normal { Within (widened n) (2 ^ 30) }
-    ensures value { result ≡ along length n }
-    ensures size { Within result (unsigned_abs length) }
+    ensures value { widened result ≡ along length n }
+    ensures size { Within (widened result) (unsigned_abs length) }
 {
-    Wide3 {
+    Vec3 {
         x: component_along(length, n.x),
         y: component_along(length, n.y),
         z: component_along(length, n.z),
@@ -188,43 +197,53 @@ pub fn relative_velocity(a: &Side, b: &Side, n: Vec3, delta: u64) -> Vec3
 }
 
 /// The part of a vector along the normal, positive where it points along it.
-#[tactic(auto, unfolding(dem_model::specs::Law::along_normal))]
-pub fn part_along(n: Vec3, u: Wide3) -> i128
+pub fn part_along(n: Vec3, u: Vec3) -> i64
     requires normal { Within (widened n) (2 ^ 30) }
-    requires small { Within u (2 ^ 48) }
-    ensures value { result ≡ along_normal n u }
+    requires small { Within (widened u) (2 ^ 48) }
+    ensures value { result ≡ along_normal n (widened u) }
     ensures size { AtMost result (2 ^ 50) }
 {
-    sh(dot(n, short3(u)), 30)
+    narrow(wide_part(n, u))
+}
+
+/// The part of a vector along the normal, not yet at 64 bits.
+#[tactic(auto, unfolding(dem_model::specs::Law::along_normal))]
+fn wide_part(n: Vec3, u: Vec3) -> i128
+    requires normal { Within (widened n) (2 ^ 30) }
+    requires small { Within (widened u) (2 ^ 48) }
+    ensures value { result ≡ along_normal n (widened u) }
+    ensures size { AtMost result (2 ^ 50) }
+{
+    sh(dot(n, widen(u)), 30)
 }
 
 /// The vector less its part along the normal.
 #[tactic(auto, unfolding(dem_model::specs::Law::across_normal))]
-pub fn part_across(n: Vec3, u: Wide3) -> Wide3
+pub fn part_across(n: Vec3, u: Vec3) -> Vec3
     requires normal { Within (widened n) (2 ^ 30) }
-    requires small { Within u (2 ^ 48) }
-    ensures value { result ≡ across_normal n u }
-    ensures size { Within result (2 ^ 51) }
+    requires small { Within (widened u) (2 ^ 48) }
+    ensures value { widened result ≡ across_normal n (widened u) }
+    ensures size { Within (widened result) (2 ^ 51) }
 {
     without(n, part_along(n, u), u)
 }
 
 /// The vector less one along the normal, of the given length.
-fn without(n: Vec3, length: i128, u: Wide3) -> Wide3
+fn without(n: Vec3, length: i64, u: Vec3) -> Vec3
     requires normal { Within (widened n) (2 ^ 30) }
     requires length_small { AtMost length (2 ^ 50) }
-    requires small { Within u (2 ^ 48) }
-    ensures value { result ≡ difference_of u (along length n) }
-    ensures size { Within result (2 ^ 51) }
+    requires small { Within (widened u) (2 ^ 48) }
+    ensures value { widened result ≡ difference_of (widened u) (along length n) }
+    ensures size { Within (widened result) (2 ^ 51) }
 {
-    sub3(u, vector_along(length, n))
+    sub3_short(u, vector_along(length, n))
 }
 
 /// How the first side moves against the second: the speed along the normal, positive when parting, and the slip across it.
 #[derive(Clone, Copy, PartialEq, Debug)]
 pub struct Motion {
-    pub speed: i128,
-    pub slip: Wide3,
+    pub speed: i64,
+    pub slip: Vec3,
 }
 
 /// How the first side moves against the second at the contact.
@@ -234,11 +253,11 @@ pub fn motion_between(a: &Side, b: &Side, n: Vec3, delta: u64) -> Motion
     requires second { IsBounded b.now }
     requires normal { Within (widened n) (2 ^ 30) }
     ensures speed { result.speed ≡ along_normal n (relative_velocity_of a.now b.now n delta) }
-    ensures slip { result.slip ≡ across_normal n (relative_velocity_of a.now b.now n delta) }
+    ensures slip { widened result.slip ≡ across_normal n (relative_velocity_of a.now b.now n delta) }
     ensures speed_size { AtMost result.speed (2 ^ 50) }
-    ensures slip_size { Within result.slip (2 ^ 51) }
+    ensures slip_size { Within (widened result.slip) (2 ^ 51) }
 {
-    let u = widen(relative_velocity(a, b, n, delta));
+    let u = relative_velocity(a, b, n, delta);
     let speed = part_along(n, u);
     Motion {
         speed,

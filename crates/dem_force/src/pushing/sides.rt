@@ -1,7 +1,8 @@
 //! The side of a sphere, and the law between a pair.
 
 ghost use Rattle.std.specs.Prelude.{◌≡◌, ◌<◌, ◌≤◌, ◌^◌, length};
-ghost use Rattle.dem_num.specs.Rotations.{matrix_of, EntriesWithin};
+ghost use Rattle.dem_num.specs.Rotations.{matrix_of, turned_by, EntriesWithin};
+ghost use Rattle.dem_num.specs.Vectors.{widened, Within};
 ghost use Rattle.dem_model.specs.Advance.{mass_of};
 ghost use Rattle.dem_model.specs.Motion.{AreSound, IsPair};
 ghost use Rattle.dem_model.specs.Pairs.{sphere_count, sphere_at};
@@ -21,9 +22,9 @@ ghost use Rattle.dem_shape.specs.Pose.{IsPose};
 use crate::pushing::mixing::mix;
 use crate::touching::pairs::wall_of;
 use dem_model::{Body, Law, Material, Pair, Side};
-use dem_num::Rows;
+use dem_num::{Rows, Vec3, ZERO};
 use dem_shape::{Pose, Shapes};
-use dem_turn::{matrix, turned, turned_spin};
+use dem_turn::{is_zero, matrix, turned, turned_spin};
 
 /// The side of a sphere: the velocity and the world spin of its clump, its turned offset, its radius, its clump's mass.
 pub fn side_of(shapes: &Shapes, body: &Body, sphere: u32) -> Side
@@ -50,11 +51,21 @@ fn side_with(shapes: &Shapes, body: &Body, rows: &Rows, sphere: u32) -> Side
     Side {
         v: body.v,
         spin: turned_spin(rows, body.w),
-        lever: turned(rows, ball.at),
+        lever: lever(rows, ball.at),
         r: ball.r,
         mass: mass(shapes, sphere),
         wall: false,
     }
+}
+
+/// A sphere's offset in world axes: none where it stands where its clump does.
+fn lever(rows: &Rows, at: Vec3) -> Vec3
+    requires entries { EntriesWithin rows.now (2 ^ 30) }
+    requires offset { Within (widened at) (2 ^ 26) }
+    ensures value { widened result ≡ turned_by rows.now (widened at) }
+    ensures size { Within (widened result) (2 ^ 28) }
+{
+    if is_zero(at) { ZERO } else { turned(rows, at) }
 }
 
 /// The mass of a sphere's clump.

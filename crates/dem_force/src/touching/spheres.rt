@@ -1,6 +1,6 @@
 //! How two spheres touch: along the line of their centers, as deep as their radii reach over it.
 
-ghost use Rattle.std.specs.Prelude.{◌≡◌, pos, ◌*◌, ◌^◌, ◌<◌, ◌≤◌, ◌-ℤ◌, ◌*ℤ◌, IfSome, unsigned_abs};
+ghost use Rattle.std.specs.Prelude.{◌≡◌, pos, ◌*◌, ◌/◌, ◌^◌, ◌<◌, ◌≤◌, ◌-ℤ◌, ◌*ℤ◌, IfSome, unsigned_abs};
 ghost use Rattle.dem_num.specs.Numbers.{AtMost, quotient, root_of, square_of};
 ghost use Rattle.dem_num.specs.Vectors.{widened, Within, norm2_of};
 ghost use Rattle.dem_model.specs.Ranges.{IsTouch};
@@ -9,7 +9,7 @@ ghost use Rattle.dem_model.specs.Touch.{normal_of, spheres_touch};
 ghost use Rattle.dem_model.specs.declared.limits.TheConstants.{UNIT, MAX_OVERLAP};
 
 use dem_model::{Touch, UNIT};
-use dem_num::{Vec3, Wide3, narrow, reciprocal, root, share};
+use dem_num::{Vec3, Wide3, narrow, root};
 
 /// How two spheres touch, from the center of the first less that of the second and their radii together, in u.
 #[tactic(auto, unfolding(dem_model::specs::Touch::spheres_touch))]
@@ -45,7 +45,7 @@ fn overlap(radii: u64, distance: u64) -> i64
 #[tactic(auto, unfolding(dem_model::specs::Touch::normal_of))]
 fn normal(d: Wide3, distance: u64) -> Vec3
     requires length { distance ≡ root_of (norm2_of d) }
-    requires close { distance ≤ 2 ^ 38 }
+    requires close { distance ≤ 2 ^ 27 }
     ensures value { result ≡ normal_of d }
     ensures size { Within (widened result) (2 ^ 30) }
 {
@@ -65,13 +65,13 @@ fn normal(d: Wide3, distance: u64) -> Vec3
 fn direction(d: Wide3, distance: u64) -> Vec3
     requires length { distance ≡ root_of (norm2_of d) }
     requires some { 0 < distance }
-    requires close { distance ≤ 2 ^ 38 }
+    requires close { distance ≤ 2 ^ 27 }
     ensures x { result.x ≡ quotient (pos UNIT *ℤ d.x) (pos distance) }
     ensures y { result.y ≡ quotient (pos UNIT *ℤ d.y) (pos distance) }
     ensures z { result.z ≡ quotient (pos UNIT *ℤ d.z) (pos distance) }
     ensures size { Within (widened result) (2 ^ 30) }
 {
-    let inverse = reciprocal(distance);
+    let inverse = (1 << 63) / distance;
     Vec3 {
         x: part(d.x, distance, inverse),
         y: part(d.y, distance, inverse),
@@ -79,15 +79,50 @@ fn direction(d: Wide3, distance: u64) -> Vec3
     }
 }
 
-/// A component over the length, times 2^30; the reciprocal of the length is about `inverse`.
+/// A component over the length, times 2^30; 2^63 over the length is about `inverse`.
+#[tactic(auto, unfolding(dem_num::specs::Numbers::quotient))]
 fn part(e: i128, distance: u64, inverse: u64) -> i64
     requires some { 0 < distance }
     requires part { unsigned_abs e ≤ distance }
-    requires close { distance ≤ 2 ^ 38 }
+    requires close { distance ≤ 2 ^ 27 }
     ensures value { result ≡ quotient (pos UNIT *ℤ e) (pos distance) }
     ensures size { AtMost result (2 ^ 30) }
 {
-    share(e, distance, inverse)
+    let size = size_part(e.unsigned_abs() as u64, distance, inverse);
+    if e < 0 { -(size as i64) } else { size as i64 }
+}
+
+/// A component without its sign over the length, times 2^30.
+fn size_part(e: u64, distance: u64, inverse: u64) -> u64
+    requires some { 0 < distance }
+    requires part { e ≤ distance }
+    requires close { distance ≤ 2 ^ 27 }
+    ensures value { result ≡ 2 ^ 30 * e / distance }
+    ensures bound { result ≤ 2 ^ 30 }
+{
+    tested_part((1 << 30) * e, distance, e.wrapping_mul(inverse) >> 33)
+}
+
+/// The quotient: quickly where the guess is the quotient or one less.
+#[tactic(auto, using(dem_num::proofs::QuotientFacts::quotient_is, dem_num::proofs::QuotientFacts::quotient_is_next))]
+fn tested_part(scaled: u64, distance: u64, guess: u64) -> u64
+    requires some { 0 < distance }
+    requires close { distance ≤ 2 ^ 27 }
+    ensures { result ≡ scaled / distance }
+{
+    if guess <= UNIT {
+        let part = guess * distance;
+        if part <= scaled {
+            let rest = scaled - part;
+            if rest < distance {
+                return guess;
+            }
+            if rest - distance < distance {
+                return guess + 1;
+            }
+        }
+    }
+    scaled / distance
 }
 
 /// The square of the distance between two centers.

@@ -1,5 +1,5 @@
 use Rattle.std.proofs.Common.{◌≡◌, ◌^◌, ◌≤◌, arith, to_z, of_z, unsigned_abs}
-use mir.Syntax.{w128}
+use mir.Syntax.{w64}
 use Rattle.std.proofs.lemmas.Int.{to_z-of_z, fits_signed_from_abs}
 use Rattle.dem_model.specs.Law.{pushed_of}
 use Rattle.dem_force.proofs.pushing.law.pushed.Goals as goal
@@ -9,7 +9,7 @@ unfolding pushed_of
 returns-clause-value c =
     let speed = c.motion_between-motion.result.speed in
     let small : unsigned_abs speed ≤ 2 ^ 50 = c.motion_between-motion.ensures.speed_size in
-    let same : to_z w128 (of_z w128 speed) ≡ speed = to_z-of_z w128 speed (fits_signed_from_abs w128 speed (omega arith)) in
+    let same : to_z w64 (of_z w64 speed) ≡ speed = to_z-of_z w64 speed (fits_signed_from_abs w64 speed (omega arith)) in
     let normal = rw same at c.normal_force-normal.ensures.value in
     cc (
       normal,

@@ -8,4 +8,4 @@ pub returns-clause-size : goal.returns-clause-size
 returns-clause-size c =
     let most : c.args.factor * unsigned_abs c.args.speed ≤ 2 ^ 66 * 2 ^ 51 =
     mul-le c.args.factor (unsigned_abs c.args.speed) (2 ^ 66) (2 ^ 51) c.requires.factor_small c.requires.speed_small in
-    grind (arith, to_z-of_z, shifted_le c.damping_product.result 32 (2 ^ 85))
+    grind (arith, to_z-of_z, shifted_le c.mul.result 32 (2 ^ 85))

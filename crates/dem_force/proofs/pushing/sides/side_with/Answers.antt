@@ -11,7 +11,7 @@ returns-clause-ranges c = record {
   within = record {
     v = within_wider (widened c.args.body.now.v) c.args.shapes.now.speed (2 ^ 40) c.requires.body.body.v c.scene-scene.ensures.sound.speed.le_high;
     spin = c.turned_spin.ensures.size;
-    lever = c.turned.ensures.size;
+    lever = c.lever.ensures.size;
     r = c.ball_of-ball.ensures.within.r.le_high;
     mass = c.mass.ensures.range.le_high;
   };

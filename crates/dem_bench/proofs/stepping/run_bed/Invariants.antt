@@ -1,4 +1,0 @@
-use Rattle.dem_bench.proofs.stepping.run_bed.Given as goal
-
-abbrev pub ghosts-make_steps : goal.ghosts-make_steps
-ghosts-make_steps a = record { name = a.blank.name; parts = a.blank.parts }

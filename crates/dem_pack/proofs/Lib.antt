@@ -1,0 +1,15 @@
+pub mod RangeFacts
+pub mod LayerFacts
+pub mod CellFacts
+pub mod SpanFacts
+pub mod FindFacts
+pub mod StandFacts
+pub mod ExtentFacts
+pub mod ListFacts
+pub mod SpaceFacts
+pub mod InsideFacts
+pub mod ApartFacts
+pub mod ClearFacts
+pub mod AnswerFacts
+pub mod CanFacts
+pub mod BodyFacts

@@ -1,0 +1,4 @@
+pub mod Layouts
+pub mod Layers
+pub mod Asks
+pub mod Rows

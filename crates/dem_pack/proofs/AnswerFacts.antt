@@ -1,6 +1,6 @@
 -- What an answer with stands says of an ask.
-use Rattle.std.proofs.Common.{◌≡◌, ℕ, ◌+◌, ◌*◌, ◌<◌, ◌≤◌, ◌⊎◌, inl, inr, Bool, true, false, nat_lt, List, [], ◌∷◌, length, Option, Some, None, Result, Ok, Err, refl, sym, ap, ◌∙◌, ⊎_elim, subst, arith}
-use Rattle.std.specs.Prelude.{not, IfOk, IfErr, is_ok, slice_get, if◌then◌else◌}
+use Rattle.std.proofs.Common.{◌≡◌, ℕ, ◌*◌, ◌<◌, ◌≤◌, Bool, true, false, nat_lt, List, [], length, Option, Some, Result, Ok, Err, refl, sym, ap, ◌∙◌, ⊎_elim, subst}
+use Rattle.std.specs.Prelude.{not, IfOk, is_ok, slice_get, if◌then◌else◌}
 use Rattle.std.specs.Option.{option_map_or}
 use Rattle.std.proofs.lemmas.Bool.{cases_lt, lt-ltb, le-ltb, false≢true}
 use Rattle.dem_model.specs.SceneValue.{SceneValue}

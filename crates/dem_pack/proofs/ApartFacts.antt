@@ -1,15 +1,14 @@
 -- Cells are a pitch apart: on one axis, or in length.
-use Rattle.std.proofs.Common.{◌≡◌, ℕ, zero, suc, ◌+◌, ◌-◌, ◌*◌, ◌/◌, ◌%◌, ◌<◌, ◌≤◌, ◌⊎◌, inl, inr, ℤ, pos, Bool, true, false, nat_le, List, map, find, unwrap_or, Option, Some, None, cond, arith, refl, sym, ap, ◌∙◌, ⊎_elim, subst}
+use Rattle.std.proofs.Common.{◌≡◌, ℕ, zero, suc, ◌+◌, ◌-◌, ◌*◌, ◌/◌, ◌%◌, ◌<◌, ◌≤◌, ◌⊎◌, inl, inr, pos, Bool, true, false, nat_le, map, find, unwrap_or, Some, cond, arith, refl, sym, ap, ◌∙◌, ⊎_elim, subst}
 use Rattle.std.specs.Prelude.{All, AllPairs, ◌-ℤ◌, unsigned_abs, if◌then◌else◌, ◌==◌}
-use Rattle.std.specs.List.{flat_map, range_with_len}
+use Rattle.std.specs.List.{range_with_len}
 use Rattle.std.proofs.lemmas.Bool.{cases_lt, le-leb, lt-leb, false≢true}
 use Rattle.std.proofs.lemmas.Int.{ints}
 use Rattle.std.proofs.lemmas.Nat.{mul-le}
 use Rattle.dem_num.specs.declared.vector.Vec3.{Vec3}
 use Rattle.dem_num.specs.Vectors.{widened, difference_of, norm2_of}
-use Rattle.dem_model.specs.Cells.{Lattice, Region, Span, cells_of, grid, layer_of, layer_count, pitch_of, place_at, place_count, rise_of, shift_at, shifted_at, staggered}
+use Rattle.dem_model.specs.Cells.{Lattice, Region, cells_of, grid, layer_of, layer_count, pitch_of, place_at, rise_of, shift_at, staggered}
 use Rattle.dem_pack.specs.Layers.{columns_of, rows_of, grid_cell}
-use Rattle.dem_pack.proofs.FindFacts.{half-square}
 use Rattle.dem_pack.proofs.LayerFacts.{layer-rows}
 use Rattle.dem_pack.proofs.ListFacts.{All-range, All-rows, AllPairs-range, AllPairs-rows}
 

@@ -1,5 +1,5 @@
 -- Stands in a region of the box are sound clumps, and a scene can have those of an answer.
-use Rattle.std.proofs.Common.{◌≡◌, ℕ, zero, suc, ◌+◌, ◌*◌, ◌^◌, ◌<◌, ◌≤◌, ℤ, pos, List, [], ◌∷◌, ◌++◌, map, take, get_or, length, length-append, true, refl, sym, ap, ◌∙◌, subst, arith}
+use Rattle.std.proofs.Common.{◌≡◌, ℕ, zero, suc, ◌+◌, ◌*◌, ◌^◌, ◌<◌, ◌≤◌, ℤ, pos, List, [], ◌∷◌, map, take, get_or, length, length-append, true, sym, ap, ◌∙◌, subst, arith}
 use Rattle.std.specs.Prelude.{All, IsTrue, ◌+ℤ◌, ◌-ℤ◌, ◌≤ℤ◌, ◌<ℤ◌, unsigned_abs}
 use Rattle.std.proofs.lemmas.Int.{ints}
 use Rattle.std.proofs.lemmas.List.{length-map, length-take-le}
@@ -11,11 +11,11 @@ use Rattle.dem_num.specs.Vectors.{widened, no_vector, Within}
 use Rattle.dem_model.specs.SceneValue.{SceneValue}
 use Rattle.dem_model.specs.Cells.{cells_of, extent_of, reach_of, region_between}
 use Rattle.dem_model.specs.Centers.{still_body}
-use Rattle.dem_model.specs.Packing.{LiesBetween, StandsBetween, center_in, first_stands, stand_at}
+use Rattle.dem_model.specs.Packing.{LiesBetween, center_in, first_stands, stand_at}
 use Rattle.dem_model.specs.Position.{in_box}
-use Rattle.dem_model.specs.Sound.{IsBall, IsBetween, IsBody, IsBodyOf, IsClump, IsFrom, IsSound, IsTemplate}
-use Rattle.dem_model.specs.Spheres.{balls_of, center_of, spheres_from, spheres_of, spheres_of_clump, sphere_of}
-use Rattle.dem_model.specs.Stands.{CanStand, standing, standing_body, with_stands}
+use Rattle.dem_model.specs.Sound.{IsBall, IsBetween, IsClump, IsFrom, IsSound, IsTemplate}
+use Rattle.dem_model.specs.Spheres.{balls_of, spheres_from, spheres_of, spheres_of_clump, sphere_of}
+use Rattle.dem_model.specs.Stands.{CanStand, standing, with_stands}
 use Rattle.dem_model.specs.declared.limits.TheConstants.{MAX_BALLS, MAX_CLUMPS, MAX_SPHERES, MIN_NORM2, MAX_NORM2}
 use Rattle.dem_model.specs.declared.shape.Ball.{Ball}
 use Rattle.dem_model.specs.declared.shape.Template.{Template}
@@ -24,7 +24,7 @@ use Rattle.dem_pack.specs.Asks.{IsAsk, fits_box}
 use Rattle.dem_pack.specs.Layouts.{IsSized}
 use Rattle.dem_pack.specs.declared.ask.Ask.{Ask}
 use Rattle.dem_pack.proofs.AnswerFacts.{IsAnswered, lattice_for}
-use Rattle.dem_pack.proofs.CanFacts.{deep, in_box-from, stands-count, stands-inside}
+use Rattle.dem_pack.proofs.CanFacts.{deep, in_box-from, stands-count}
 use Rattle.dem_pack.proofs.ExtentFacts.{extent-bounds}
 use Rattle.dem_pack.proofs.InsideFacts.{IsDeep, IsDeepCell, lies-between}
 

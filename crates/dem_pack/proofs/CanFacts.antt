@@ -1,23 +1,19 @@
 -- A scene can have the stands of an answer.
-use Rattle.std.proofs.Common.{◌≡◌, ℕ, zero, suc, ◌+◌, ◌*◌, ◌^◌, ◌<◌, ◌≤◌, ◌⊎◌, ℤ, pos, Bool, true, false, nat_lt, List, [], ◌∷◌, ◌++◌, map, take, get_or, length, length-append, refl, sym, ap, ◌∙◌, ⊎_elim, subst, arith}
-use Rattle.std.specs.Prelude.{All, AllPairs, IsTrue, not, ◌&&◌, ◌+ℤ◌, ◌-ℤ◌, ◌≤ℤ◌, ◌<ℤ◌, int_lt, int_le, unsigned_abs}
+use Rattle.std.proofs.Common.{◌≡◌, ℕ, ◌*◌, ◌^◌, ◌≤◌, ℤ, pos, Bool, true, List, take, get_or, length, refl, sym, ap, ◌∙◌, subst, arith}
+use Rattle.std.specs.Prelude.{All, AllPairs, IsTrue, ◌&&◌, ◌≤ℤ◌, ◌<ℤ◌, int_le}
 use Rattle.std.proofs.lemmas.Bool.{and_parts}
 use Rattle.std.proofs.lemmas.Int.{ints}
 use Rattle.std.proofs.lemmas.List.{length-map, length-take-le}
 use Rattle.std.proofs.lemmas.List.Elements.{All-map, All-take, All-weaker}
 use Rattle.dem_num.specs.declared.vector.Vec3.{Vec3}
 use Rattle.dem_num.specs.declared.vector.Wide3.{Wide3}
-use Rattle.dem_num.specs.Rotations.{quat_norm2_of}
-use Rattle.dem_num.specs.Vectors.{widened, no_vector, sum_of, Within}
+use Rattle.dem_num.specs.Vectors.{widened, sum_of}
 use Rattle.dem_model.specs.SceneValue.{SceneValue}
-use Rattle.dem_model.specs.Cells.{Lattice, Region, cells_of, extent_of, grid, reach_of, region_between, staggered, pitch_of}
-use Rattle.dem_model.specs.Centers.{still_body}
+use Rattle.dem_model.specs.Cells.{Region, cells_of, extent_of, grid, reach_of, region_between, staggered, pitch_of}
 use Rattle.dem_model.specs.Packing.{AreClear, IsPacking, LiesBetween, StandClear, StandsBetween, center_in, first_stands, stand_at}
 use Rattle.dem_model.specs.Position.{in_box, in_voxels}
-use Rattle.dem_model.specs.Sound.{IsBall, IsBetween, IsBody, IsBodyOf, IsClump, IsFrom, IsSound, IsTemplate}
-use Rattle.dem_model.specs.Spheres.{balls_of, spheres_from, spheres_of, spheres_of_clump, sphere_of}
-use Rattle.dem_model.specs.Stands.{CanStand, standing, standing_body, with_stands}
-use Rattle.dem_model.specs.declared.limits.TheConstants.{MAX_CLUMPS, MAX_SPHERES, MIN_NORM2, MAX_NORM2, VOXEL}
+use Rattle.dem_model.specs.Spheres.{balls_of}
+use Rattle.dem_model.specs.declared.limits.TheConstants.{VOXEL}
 use Rattle.dem_model.specs.declared.shape.Ball.{Ball}
 use Rattle.dem_model.specs.declared.shape.Template.{Template}
 use Rattle.dem_model.specs.declared.state.Stand.{Stand}
@@ -29,7 +25,7 @@ use Rattle.dem_pack.proofs.AnswerFacts.{IsAnswered, lattice_for}
 use Rattle.dem_pack.proofs.ApartFacts.{AreSplit, AreFar, grid-split, staggered-far}
 use Rattle.dem_pack.proofs.ClearFacts.{clear-on-grid, clear-staggered}
 use Rattle.dem_pack.proofs.ExtentFacts.{extent-bounds}
-use Rattle.dem_pack.proofs.InsideFacts.{IsDeep, IsDeepCell, deep-cells, lies-between}
+use Rattle.dem_pack.proofs.InsideFacts.{IsDeepCell, deep-cells, lies-between}
 use Rattle.dem_pack.proofs.ListFacts.{AllPairs-take, AllPairs-map}
 use Rattle.dem_pack.proofs.SpaceFacts.{center-is}
 

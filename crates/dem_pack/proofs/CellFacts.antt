@@ -1,15 +1,15 @@
 -- Cell number n: in which layer it is, and where in it.
-use Rattle.std.proofs.Common.{◌≡◌, ℕ, zero, suc, ◌+◌, ◌-◌, ◌*◌, ◌/◌, ◌%◌, ◌<◌, ◌≤◌, List, [], ◌∷◌, ◌++◌, map, length, length-append, get_or, Option, Some, nat_lt, refl, sym, ap, ◌∙◌, ⊎_elim, subst, arith}
-use Rattle.std.specs.Prelude.{slice_get, if◌then◌else◌, ◌==◌}
+use Rattle.std.proofs.Common.{◌≡◌, ℕ, suc, ◌+◌, ◌-◌, ◌*◌, ◌/◌, ◌%◌, ◌<◌, ◌≤◌, List, ◌++◌, map, length, Some, nat_lt, refl, sym, ap, ◌∙◌, ⊎_elim, subst, arith}
+use Rattle.std.specs.Prelude.{slice_get, if◌then◌else◌}
 use Rattle.std.specs.List.{flat_map, range_with_len}
 use Rattle.std.proofs.lemmas.Bool.{cases_lt, lt-ltb, le-ltb}
 use Rattle.std.proofs.lemmas.Nat.{div-mul-add, mod-mul-add, div-add-mod', mod_below, div_below, mul-le}
 use Rattle.std.proofs.lemmas.List.FromFn.{length-map-range_with_len, get_or-map-range_with_len}
 use Rattle.std.proofs.lemmas.Option.{slice_get-get_or}
 use Rattle.dem_num.specs.declared.vector.Vec3.{Vec3}
-use Rattle.dem_model.specs.Cells.{Lattice, Region, Span, place_at, place_count, shifted_at, layer_of, layer_count, cells_of}
-use Rattle.dem_pack.specs.Layers.{columns_of, rows_of, layer_size, grid_cell, cell_in}
-use Rattle.dem_pack.proofs.RangeFacts.{map-same, map-join, flat_map-more, map-rows, flat_map-twos, flat_map-none}
+use Rattle.dem_model.specs.Cells.{Lattice, Region, layer_of, layer_count, cells_of}
+use Rattle.dem_pack.specs.Layers.{columns_of, rows_of, layer_size, cell_in}
+use Rattle.dem_pack.proofs.RangeFacts.{map-join, flat_map-more, map-rows, flat_map-twos}
 use Rattle.dem_pack.proofs.LayerFacts.{layer-cells, even-size, odd-size, cell-count}
 
 -- a layer with a cell has columns

@@ -1,6 +1,6 @@
 -- Stands at cells are clear of each other.
-use Rattle.std.proofs.Common.{◌≡◌, ℕ, ◌+◌, ◌*◌, ◌<◌, ◌≤◌, ◌⊎◌, ℤ, pos, Bool, true, false, nat_lt, List, [], ◌∷◌, None, arith, refl, sym, ap, ◌∙◌, ⊎_elim, subst}
-use Rattle.std.specs.Prelude.{All, ◌+ℤ◌, ◌-ℤ◌, unsigned_abs, ◌==◌, ◌&&◌, max}
+use Rattle.std.proofs.Common.{◌≡◌, ℕ, ◌+◌, ◌*◌, ◌≤◌, ◌⊎◌, ℤ, true, List, [], ◌∷◌, None, arith, refl, ⊎_elim, subst}
+use Rattle.std.specs.Prelude.{All, ◌+ℤ◌, ◌-ℤ◌, unsigned_abs, ◌==◌, ◌&&◌}
 use Rattle.std.proofs.lemmas.Bool.{le-ltb, false≢true, and_parts, eqb-true}
 use Rattle.std.proofs.lemmas.Int.{ints}
 use Rattle.std.proofs.lemmas.Nat.{mul-le}
@@ -9,14 +9,12 @@ use Rattle.dem_num.specs.declared.vector.Vec3.{Vec3}
 use Rattle.dem_num.specs.declared.vector.Wide3.{Wide3}
 use Rattle.dem_num.specs.Vectors.{widened, difference_of, norm2_of, sum_of, is_zero}
 use Rattle.dem_model.specs.Cells.{extent_of, pitch_of, reach_of}
-use Rattle.dem_model.specs.Packing.{AreClear, center_in}
+use Rattle.dem_model.specs.Packing.{AreClear}
 use Rattle.dem_model.specs.Touch.{spheres_touch}
 use Rattle.dem_model.specs.declared.shape.Ball.{Ball}
-use Rattle.dem_model.specs.declared.state.Stand.{Stand}
 use Rattle.dem_pack.specs.Asks.{is_one_sphere}
 use Rattle.dem_pack.proofs.ApartFacts.{AreSplit, AreFar}
 use Rattle.dem_pack.proofs.InsideFacts.{reach-x, reach-y, reach-z}
-use Rattle.dem_pack.proofs.SpaceFacts.{center-is}
 
 no-touch : (gap : ℕ) (a b : Wide3) (ra rb : ℕ) → (ra + rb + gap) * (ra + rb + gap) ≤ norm2_of (difference_of a b) → spheres_touch (difference_of a b) (ra + rb) ≡ None
 unfolding spheres_touch

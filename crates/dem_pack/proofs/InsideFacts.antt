@@ -1,12 +1,11 @@
 -- Cells lie in their region, as deep as a template reaches; so its spheres do.
-use Rattle.std.proofs.Common.{◌≡◌, ℕ, ◌+◌, ◌-◌, ◌*◌, ◌<◌, ◌≤◌, ℤ, pos, List, map, arith, refl, sym, ap, ◌∙◌, subst}
+use Rattle.std.proofs.Common.{ℕ, ◌+◌, ◌<◌, ◌≤◌, ℤ, pos, map, arith, sym, subst}
 use Rattle.std.specs.Prelude.{All, ◌+ℤ◌, ◌-ℤ◌, ◌≤ℤ◌, unsigned_abs}
-use Rattle.std.specs.List.{flat_map, range_with_len}
+use Rattle.std.specs.List.{range_with_len}
 use Rattle.std.proofs.lemmas.Int.{ints}
 use Rattle.dem_num.specs.declared.vector.Vec3.{Vec3}
 use Rattle.dem_num.specs.declared.vector.Wide3.{Wide3}
-use Rattle.dem_num.specs.Vectors.{widened, sum_of}
-use Rattle.dem_model.specs.Cells.{Lattice, Region, Span, cells_of, layer_of, layer_count, place_at, place_count, region_between, shift_at, shifted_at, reach_of}
+use Rattle.dem_model.specs.Cells.{Lattice, Region, Span, cells_of, layer_of, layer_count, place_at, place_count, region_between, shift_at, reach_of}
 use Rattle.dem_model.specs.Packing.{LiesBetween, center_in}
 use Rattle.dem_model.specs.Sound.{IsBetween, EachBetween}
 use Rattle.dem_model.specs.declared.shape.Ball.{Ball}

@@ -1,17 +1,15 @@
 -- The cells of a lattice by number.
-use Rattle.std.proofs.Common.{◌≡◌, ℕ, zero, suc, ◌+◌, ◌-◌, ◌*◌, ◌/◌, ◌%◌, ◌<◌, ◌≤◌, List, [], ◌∷◌, ◌++◌, map, length, length-append, get_or, Option, Some, nat_lt, refl, sym, ap, ◌∙◌, ⊎_elim, subst, arith}
-use Rattle.std.specs.Prelude.{slice_get, if◌then◌else◌, ◌==◌}
+use Rattle.std.proofs.Common.{◌≡◌, ℕ, zero, suc, ◌+◌, ◌-◌, ◌*◌, ◌/◌, ◌%◌, ◌<◌, ◌≤◌, List, map, length, length-append, sym, ap, ◌∙◌, ⊎_elim, arith}
+use Rattle.std.specs.Prelude.{if◌then◌else◌, ◌==◌}
 use Rattle.std.specs.List.{flat_map, range_with_len}
-use Rattle.std.proofs.lemmas.Bool.{cases_lt, lt-ltb, le-ltb}
-use Rattle.std.proofs.lemmas.Nat.{div-mul-add, mod-mul-add, div-add-mod', mod_below, div_below}
+use Rattle.std.proofs.lemmas.Bool.{cases_lt}
 use Rattle.std.proofs.lemmas.Simd.{map-map}
 use Rattle.std.proofs.lemmas.List.Folds.{flat_map-map}
-use Rattle.std.proofs.lemmas.List.FromFn.{length-map-range_with_len, get_or-map-range_with_len}
-use Rattle.std.proofs.lemmas.Option.{slice_get-get_or}
+use Rattle.std.proofs.lemmas.List.FromFn.{length-map-range_with_len}
 use Rattle.dem_num.specs.declared.vector.Vec3.{Vec3}
-use Rattle.dem_model.specs.Cells.{Lattice, Region, Span, place_at, places, place_count, shift_at, shifted_at, cell_at, cells_over, layer_of, layer_count, cells_of}
+use Rattle.dem_model.specs.Cells.{Lattice, Region, place_at, places, place_count, shift_at, shifted_at, cell_at, cells_over, layer_of}
 use Rattle.dem_pack.specs.Layers.{columns_of, rows_of, layer_size, grid_cell, cell_in}
-use Rattle.dem_pack.proofs.RangeFacts.{map-same, map-join, flat_map-more, map-rows, flat_map-twos, flat_map-none}
+use Rattle.dem_pack.proofs.RangeFacts.{flat_map-more, map-rows, flat_map-none}
 
 module _ (l : Lattice) (region : Region) where
   -- a layer as rows of cells

@@ -13,3 +13,5 @@ pub mod ClearFacts
 pub mod AnswerFacts
 pub mod CanFacts
 pub mod BodyFacts
+pub mod CommaFacts
+pub mod StartFacts

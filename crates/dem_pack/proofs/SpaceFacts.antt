@@ -1,11 +1,11 @@
 -- A stand isn't turned: its spheres are where their offsets say.
-use Rattle.std.proofs.Common.{◌≡◌, ℕ, suc, ◌+◌, ◌*◌, ◌/◌, ◌^◌, ℤ, pos, negsuc, neg_ℤ, arith, refl, sym, ap, ◌∙◌}
-use Rattle.std.specs.Prelude.{◌+ℤ◌, ◌*ℤ◌}
+use Rattle.std.proofs.Common.{◌≡◌, ℕ, suc, ◌+◌, ◌*◌, ◌/◌, ℤ, pos, negsuc, neg_ℤ, arith, refl, ap, ◌∙◌}
+use Rattle.std.specs.Prelude.{◌*ℤ◌}
 use Rattle.std.specs.Int.{int_shr}
 use Rattle.dem_num.specs.declared.vector.Rows.{Rows}
 use Rattle.dem_num.specs.declared.vector.Wide3.{Wide3}
 use Rattle.dem_num.specs.Numbers.{quotient, shifted}
-use Rattle.dem_num.specs.Rotations.{quat_norm2_of, matrix_of, turned_by, turned_of, matrix_entry_of, axial, mixed_sum, mixed_difference}
+use Rattle.dem_num.specs.Rotations.{quat_norm2_of, matrix_of, turned_by, matrix_entry_of, axial, mixed_sum, mixed_difference}
 use Rattle.dem_num.specs.Vectors.{widened, dot_of, sum_of}
 use Rattle.dem_model.specs.Centers.{still_body}
 use Rattle.dem_model.specs.Packing.{center_in}

@@ -1,9 +1,9 @@
 -- Places lie in their stretch.
-use Rattle.std.proofs.Common.{◌≡◌, ℕ, ◌+◌, ◌-◌, ◌*◌, ◌/◌, ◌%◌, ◌<◌, ◌≤◌, Bool, nat_le, sym, ap, ◌∙◌, ⊎_elim, subst, arith}
+use Rattle.std.proofs.Common.{ℕ, ◌+◌, ◌-◌, ◌*◌, ◌/◌, ◌<◌, ◌≤◌, Bool, sym, ⊎_elim, subst, arith}
 use Rattle.std.specs.Prelude.{if◌then◌else◌}
 use Rattle.std.proofs.lemmas.Bool.{le-leb, lt-leb, cases_lt}
 use Rattle.std.proofs.lemmas.Nat.{div-add-mod', mul-le}
-use Rattle.dem_model.specs.Cells.{Span, place_at, place_count}
+use Rattle.dem_model.specs.Cells.{Span, place_count}
 
 -- what reaches so far from a place stays in the stretch
 pub place-inside : (extent pitch : ℕ) (s : Span) (i : ℕ) → i < place_count extent pitch s → i * pitch + s.low + 2 * extent ≤ s.high

@@ -1,5 +1,6 @@
 -- Asks: within which limits they are, which of them are refused and how, and the stands of the others.
 use Rattle.std.specs.Prelude.{ℕ, ℤ, pos, ◌≡◌, ◌⊎◌, ◌≤◌, ◌<◌, ◌*◌, ◌^◌, Bool, true, false, not, ◌&&◌, List, [], ◌∷◌, length, Result, Ok, Err, IfOk, IfErr, nat_lt, int_le, if◌then◌else◌}
+use Rattle.dem_num.specs.declared.vector.Vec3.{Vec3}
 use Rattle.dem_num.specs.Vectors.{widened, is_zero}
 use Rattle.dem_model.specs.SceneValue.{SceneValue}
 use Rattle.dem_model.specs.Cells.{Lattice, grid, staggered, extent_of, region_between, cells_of}
@@ -17,12 +18,16 @@ use Rattle.dem_pack.specs.declared.ask.PackFault.TheVariants.{Index, Region, Sha
 
 -- ---- limits
 
+-- no component of a corner is negative, or above 2^36
+abbrev pub IsCorner : Vec3 → Type 0
+IsCorner v = EachBetween (pos 0) (pos (2 ^ 36)) v
+
 -- what is asked is within the limits
 pub record IsAsk (a : Ask) : Type 0 where
   pub t : a.t < MAX_TEMPLATES
   pub gap : a.gap ≤ 2 ^ 26
-  pub lo : EachBetween (pos 0) (pos (2 ^ 36)) a.lo
-  pub hi : EachBetween (pos 0) (pos (2 ^ 36)) a.hi
+  pub lo : IsCorner a.lo
+  pub hi : IsCorner a.hi
   pub count : IsFrom 1 MAX_CLUMPS a.count
 
 -- ---- refusals, in their order

@@ -1,5 +1,5 @@
 -- A layout: the lattice and the region that cells are counted and found by.
-use Rattle.std.specs.Prelude.{ℕ, ◌≤◌, ◌^◌}
+use Rattle.std.specs.Prelude.{◌≤◌, ◌^◌}
 use Rattle.dem_model.specs.Cells.{Lattice, Region, Span}
 use Rattle.dem_num.specs.Vectors.{widened, Within}
 use Rattle.dem_model.specs.Sound.{IsFrom}

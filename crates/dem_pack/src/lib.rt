@@ -11,7 +11,12 @@ mod extent;
 mod layout;
 mod packing;
 mod place;
+mod read;
 mod rise;
 
 pub use ask::{Ask, Kind, PackFault};
 pub use packing::pack;
+pub use read::read_ask;
+
+#[cfg(test)]
+mod tests;

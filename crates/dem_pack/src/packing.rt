@@ -3,8 +3,9 @@ ghost use Rattle.std.specs.Prelude.{◌≡◌, ◌≤◌, ◌<◌, ◌+◌, ◌^
 ghost use Rattle.dem_model.specs.Cells.{Lattice, cells_of, extent_of, region_between};
 ghost use Rattle.dem_model.specs.Packing.{IsPacking, first_stands};
 ghost use Rattle.dem_model.specs.declared.limits.TheConstants.{MAX_BALLS};
-ghost use Rattle.dem_model.specs.Stands.{CanStand};
+ghost use Rattle.dem_model.specs.Stands.{CanStand, with_stands};
 ghost use Rattle.dem_pack.specs.Asks.{Answers, IsAsk, answer_of, fits_axis, fits_box, is_one_sphere, lattice_of, stands_in, stands_of, suits};
+ghost use Rattle.dem_pack.specs.Starts.{BeginsApart};
 ghost use Rattle.dem_pack.specs.Layouts.{IsLayout, IsSized, IsStretch, lattice_in, region_in};
 
 use crate::ask::{Ask, Kind, PackFault};
@@ -70,9 +71,9 @@ fn stretch(low: i64, high: i64) -> Stretch
     }
 }
 
-// The layout of an ask, for a template of this extent.
+/// The layout of an ask, for a template of this extent.
 #[tactic(auto, unfolding(crate::specs::Asks::lattice_of, dem_model::specs::Cells::grid, dem_model::specs::Cells::staggered, dem_model::specs::Cells::pitch_of))]
-fn layout(ask: &Ask, extent: u64) -> Layout
+pub(crate) fn layout(ask: &Ask, extent: u64) -> Layout
     requires ask { IsAsk ask.now }
     requires some { 1 ≤ extent }
     requires few { extent ≤ 2 ^ 27 }
@@ -157,6 +158,7 @@ pub fn pack(alloc: Global, scene: &Scene, ask: &Ask) -> Result<List<Stand>, Pack
     ensures count { IfOk result (λ stands. length stands ≡ ask.now.count) }
     ensures packing { IfOk result (λ stands. IsPacking ask.now.lo ask.now.hi ask.now.gap scene.now.templates stands) }
     ensures sound { IfOk result (λ stands. CanStand scene.now stands) }
+    ensures untouched { IfOk result (λ stands. BeginsApart (with_stands scene.now stands)) }
 {
     if ask.t as usize >= scene.templates.len() {
         return Err(PackFault::Index);

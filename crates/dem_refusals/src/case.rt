@@ -31,7 +31,7 @@ pub struct Case<'l> {
     pub line: u64,
     /// Whether a gate holds the third post for the third step, which dynamics makes itself: it waits in vain, and goes on.
     pub held: bool,
-    /// What the source has.
+    /// What the source has, with a bar for each newline.
     pub text: &'l str,
 }
 
@@ -111,12 +111,22 @@ fn words_of(alloc: Global, line: &str) -> Result<Vec<String>, OutOfMemory> {
 fn source(alloc: Global, text: &str, piece: u32, read: u64) -> Result<MemSource, OutOfMemory>
     requires { 0 < piece }
 {
-    let Ok(bytes) = Vec::from_slice(alloc, text.as_bytes()) else {
-        return Err(OutOfMemory);
-    };
+    let bytes = bytes_of(alloc, text)?;
     let mut fails = List::new(alloc);
     fails.push(read)?;
     Ok(MemSource::new(bytes, piece, fails))
+}
+
+// The bytes of a text, with a newline for each bar.
+fn bytes_of(alloc: Global, text: &str) -> Result<Vec<u8>, OutOfMemory> {
+    let mut bytes = Vec::new(alloc);
+    for &byte in text.as_bytes() {
+        let byte = if byte == b'|' { b'\n' } else { byte };
+        if bytes.push(byte).is_err() {
+            return Err(OutOfMemory);
+        }
+    }
+    Ok(bytes)
 }
 
 // A sink of which this put fails.

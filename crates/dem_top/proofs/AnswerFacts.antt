@@ -119,6 +119,9 @@ module _ (job : Job) (source out note : Change) (taken : Takes job.limit source)
     not_done (refusals.Bin cells) e = cc
     not_done refusals.TooLong e = cc
     not_done refusals.NoFrames e = cc
+    not_done refusals.NoPack e = cc
+    not_done refusals.NoRow e = cc
+    not_done (refusals.Pack fault) e = cc
 
     not_four : (r : Refusal) → refusal_status r ≡ 4 → ⊥
     not_four refusals.Usage e = cc
@@ -126,6 +129,9 @@ module _ (job : Job) (source out note : Change) (taken : Takes job.limit source)
     not_four (refusals.Bin cells) e = cc
     not_four refusals.TooLong e = cc
     not_four refusals.NoFrames e = cc
+    not_four refusals.NoPack e = cc
+    not_four refusals.NoRow e = cc
+    not_four (refusals.Pack fault) e = cc
 
     not_five : (r : Refusal) → refusal_status r ≡ 5 → ⊥
     not_five refusals.Usage e = cc
@@ -133,6 +139,9 @@ module _ (job : Job) (source out note : Change) (taken : Takes job.limit source)
     not_five (refusals.Bin cells) e = cc
     not_five refusals.TooLong e = cc
     not_five refusals.NoFrames e = cc
+    not_five refusals.NoPack e = cc
+    not_five refusals.NoRow e = cc
+    not_five (refusals.Pack fault) e = cc
 
     not_cut : (r : Refusal) → IsCutShort (refusal_status r) → ⊥
     not_cut refusals.Usage e = cc
@@ -140,6 +149,9 @@ module _ (job : Job) (source out note : Change) (taken : Takes job.limit source)
     not_cut (refusals.Bin cells) e = cc
     not_cut refusals.TooLong e = cc
     not_cut refusals.NoFrames e = cc
+    not_cut refusals.NoPack e = cc
+    not_cut refusals.NoRow e = cc
+    not_cut (refusals.Pack fault) e = cc
 
     few : (r : Refusal) → refusal_status r ≤ 7
     few refusals.Usage = omega arith
@@ -147,6 +159,9 @@ module _ (job : Job) (source out note : Change) (taken : Takes job.limit source)
     few (refusals.Bin cells) = omega arith
     few refusals.TooLong = omega arith
     few refusals.NoFrames = omega arith
+    few refusals.NoPack = omega arith
+    few refusals.NoRow = omega arith
+    few (refusals.Pack fault) = omega arith
 
   -- a read failed, and its line was put
   pub answer-unread : Fails source → IsKept out → Gains note read_failed_text → IsCalm out → IsCalm note → Answers job source out note 4

@@ -72,6 +72,9 @@ module _ (f : SceneValue → Verdict) (verdict : List ℕ → Verdict) (each : (
   scene-undone source out note (stops.Refused (refusals.Bin cells)) read = absurd read
   scene-undone source out note (stops.Refused refusals.TooLong) read = absurd read
   scene-undone source out note (stops.Refused refusals.NoFrames) read = absurd read
+  scene-undone source out note (stops.Refused refusals.NoPack) read = absurd read
+  scene-undone source out note (stops.Refused refusals.NoRow) read = absurd read
+  scene-undone source out note (stops.Refused (refusals.Pack fault)) read = absurd read
   scene-undone source out note stops.ReadFailed read = (read, Keeps-refl out.bytes, Keeps-refl note.bytes, refl, refl)
   scene-undone source out note stops.WriteFailed read = absurd read
   scene-undone source out note stops.OutOfMemory read =

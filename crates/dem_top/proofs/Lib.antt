@@ -7,5 +7,7 @@ pub mod TurnFacts
 pub mod StandFacts
 pub mod ThreadFacts
 pub mod ListsFacts
+pub mod InputFacts
 pub mod ComparedFacts
+pub mod PackedFacts
 pub mod SummaryFacts

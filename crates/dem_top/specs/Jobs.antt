@@ -6,8 +6,10 @@ use Rattle.dem_words.specs.declared.order.Mode.{Mode}
 use Rattle.dem_words.specs.declared.order.Mode.TheVariants as modes
 use Rattle.dem_model.specs.declared.limits.TheConstants.{MAX_TEXT}
 use Rattle.dem_outside.specs.Change.{Change, IsKept, LosesAtMost}
-use Rattle.dem_top.specs.declared.comparison.TheConstants.{MAX_INPUT}
+use Rattle.dem_top.specs.declared.reading.TheConstants.{MAX_INPUT}
+use Rattle.dem_top.specs.Marks.{Meaning, parted}
 use Rattle.dem_top.specs.Compared.{check_verdict}
+use Rattle.dem_top.specs.Packed.{pack_verdict}
 use Rattle.dem_top.specs.Summaries.{gen_verdict}
 use Rattle.dem_top.specs.Verdicts.{Verdict, Refused, usage_text, plain_verdict, sched_verdict, threads_verdict}
 
@@ -30,6 +32,10 @@ sched_job o = record { limit = Some MAX_TEXT; verdict = sched_verdict o }
 abbrev pub run_job : OrderValue → Job
 run_job o = record { limit = Some MAX_TEXT; verdict = threads_verdict o }
 
+-- a scene and more, parted by this mark
+abbrev pub parted_job : (mark missing : List ℕ) → Meaning → Job
+parted_job mark missing f = record { limit = Some MAX_INPUT; verdict = parted mark missing f }
+
 -- rows compared with the output of a scene
 abbrev pub check_job : Job
 check_job = record { limit = Some MAX_INPUT; verdict = check_verdict }
@@ -37,6 +43,10 @@ check_job = record { limit = Some MAX_INPUT; verdict = check_verdict }
 -- a summary of the run of a made scene: nothing is read
 abbrev pub gen_job : OrderValue → Job
 gen_job o = record { limit = None; verdict = λ _. gen_verdict o }
+
+-- a scene with other clumps, as a row asks for
+abbrev pub pack_job : OrderValue → Job
+pack_job o = record { limit = Some MAX_INPUT; verdict = pack_verdict o.count }
 
 -- a faulty command line: nothing is read
 abbrev pub usage_job : Job
@@ -51,7 +61,7 @@ job_in modes.Check o = check_job
 job_in modes.Gen o = gen_job o
 job_in modes.Resume o = usage_job
 job_in modes.Look o = usage_job
-job_in modes.Pack o = usage_job
+job_in modes.Pack o = pack_job o
 
 -- what an order asks for
 abbrev pub job_of : OrderValue → Job

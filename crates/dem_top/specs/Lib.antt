@@ -1,6 +1,8 @@
 pub mod TurnNotes
 pub mod Verdicts
+pub mod Marks
 pub mod Compared
+pub mod Packed
 pub mod Summaries
 pub mod Jobs
 pub mod Answers

@@ -1,5 +1,5 @@
 -- What the parts of a call promise: the reading, the job, and the line on `note`.
-use Rattle.std.specs.Prelude.{◌≡◌, ℕ, ◌+◌, ◌≤◌, List, length, Result, Ok, Err, Vec, ◌⊎◌}
+use Rattle.std.specs.Prelude.{◌≡◌, ℕ, ◌+◌, ◌<◌, ◌≤◌, List, length, Result, Ok, Err, Vec, ◌⊎◌}
 use Rattle.std.specs.Io.KnownBytes.{Consumes, IsAtEnd}
 use Rattle.std.specs.declared.alloc.Global.{Global}
 use Rattle.dem_outside.specs.Change.{Stream, Change, IsKept, IsCalm, Fails, Gains, GainsPrefix}
@@ -14,11 +14,14 @@ use Rattle.dem_output.specs.declared.running.RunFault.TheVariants as runs
 use Rattle.dem_bins.specs.declared.grid.BinTooSmall.{BinTooSmall}
 use Rattle.dem_core.specs.declared.did.WorldStop.{WorldStop}
 use Rattle.dem_core.specs.declared.did.WorldStop.TheVariants as worlds
+use Rattle.dem_pack.specs.declared.ask.PackFault.{PackFault}
+use Rattle.dem_pack.specs.declared.ask.PackFault.TheVariants as packs
 use Rattle.dem_model.specs.Plain.{last_of}
 use Rattle.dem_model.specs.Output.{output_of}
 use Rattle.dem_model.specs.declared.state.Turn.{Turn}
 use Rattle.dem_top.specs.declared.reading.ReadFault.{ReadFault}
 use Rattle.dem_top.specs.declared.reading.ReadFault.TheVariants as reading
+use Rattle.dem_top.specs.declared.reading.TheConstants.{MAX_INPUT}
 use Rattle.dem_top.specs.declared.outcome.Outcome.{Outcome}
 use Rattle.dem_top.specs.declared.outcome.Outcome.TheVariants as outcomes
 use Rattle.dem_top.specs.declared.outcome.NotDone.{NotDone}
@@ -55,6 +58,11 @@ abbrev pub world_stop : WorldStop → NotDone
 world_stop worlds.WriteFault = stops.WriteFailed
 world_stop worlds.OutOfMemory = stops.OutOfMemory
 
+-- a packing that is refused; no memory is no fault of the input
+abbrev pub pack_stop : PackFault → NotDone
+pack_stop packs.OutOfMemory = stops.OutOfMemory
+pack_stop fault = stops.Refused (refusals.Pack fault)
+
 -- why a run by two threads stopped, said as of one by turns
 abbrev pub stop_by : RunFault → WorldStop
 stop_by runs.WriteFault = worlds.WriteFault
@@ -81,6 +89,14 @@ ReadsScene source (Err (stops.Refused (refusals.Scene fault))) = ForLeft source 
 ReadsScene source (Err stops.ReadFailed) = Fails source
 ReadsScene source (Err stops.OutOfMemory) = IsCalm source
 ReadsScene source (Err fault) = ⊥
+
+-- the input that the source has, where it isn't too long, or why there is none
+abbrev pub ReadsInput : Change → Result (Vec ℕ Global) NotDone → Type 0
+ReadsInput source (Ok input) = ForLeft source (λ bytes. bytes ≡ input.items) × (length input.items ≤ MAX_INPUT) × IsAtEnd source.after.bytes × IsCalm source
+ReadsInput source (Err (stops.Refused refusals.TooLong)) = ForLeft source (λ bytes. MAX_INPUT < length bytes) × IsCalm source
+ReadsInput source (Err stops.ReadFailed) = Fails source
+ReadsInput source (Err stops.OutOfMemory) = IsCalm source
+ReadsInput source (Err fault) = ⊥
 
 -- ---- the run on lists
 

@@ -2,10 +2,11 @@
 use Rattle.std.specs.Prelude.{ℕ, List}
 use Rattle.dem_model.specs.ReadingFaults.{fault_text}
 use Rattle.dem_top.specs.Verdicts.{usage_text, bin_text, too_long_text, no_frames_text}
+use Rattle.dem_top.specs.Packed.{no_pack_text, no_row_text, pack_text}
 use Rattle.dem_top.specs.declared.outcome.Outcome.{Outcome}
 use Rattle.dem_top.specs.declared.outcome.Outcome.TheVariants.{Reached, Passed, Differs}
 use Rattle.dem_top.specs.declared.refusal.Refusal.{Refusal}
-use Rattle.dem_top.specs.declared.refusal.Refusal.TheVariants.{Usage, Scene, Bin, TooLong, NoFrames}
+use Rattle.dem_top.specs.declared.refusal.Refusal.TheVariants.{Usage, Scene, Bin, TooLong, NoFrames, NoPack, NoRow, Pack}
 
 -- the status of a job that was done
 abbrev pub outcome_status : Outcome → ℕ
@@ -20,6 +21,9 @@ refusal_status (Scene fault) = 2
 refusal_status (Bin cells) = 2
 refusal_status TooLong = 2
 refusal_status NoFrames = 2
+refusal_status NoPack = 2
+refusal_status NoRow = 2
+refusal_status (Pack fault) = 2
 
 -- the line of a refusal
 abbrev pub refusal_text : Refusal → List ℕ
@@ -28,3 +32,6 @@ refusal_text (Scene fault) = fault_text fault
 refusal_text (Bin cells) = bin_text cells
 refusal_text TooLong = too_long_text
 refusal_text NoFrames = no_frames_text
+refusal_text NoPack = no_pack_text
+refusal_text NoRow = no_row_text
+refusal_text (Pack fault) = pack_text fault

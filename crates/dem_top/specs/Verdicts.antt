@@ -74,7 +74,7 @@ usage_text = codes "usage: dem MODE [--drift N] [--bin N] [--turns T] [--seed N]
 abbrev pub read_failed_text : List ℕ
 read_failed_text = codes "read failed\n"
 
--- the line of an input of `check` that is too long
+-- the line of an input of `check` or `pack` that is too long
 abbrev pub too_long_text : List ℕ
 too_long_text = codes "input: longer than 268435456 bytes\n"
 

@@ -84,8 +84,8 @@ fn write_behind<K: Sink>(out: &mut K, text: &[u8]) -> Result<(), Failed>
     write_line(out, text)
 }
 
-// Writes a text and a newline.
-fn write_line<K: Sink>(out: &mut K, text: &[u8]) -> Result<(), Failed>
+/// Writes a text and a newline.
+pub(crate) fn write_line<K: Sink>(out: &mut K, text: &[u8]) -> Result<(), Failed>
     ensures count { Counts (K.faults out.old) (K.faults out.new) result }
     ensures written { PutAppends (K.held out.old) (K.held out.new) result (text.now ++ codes "\n") }
 {

@@ -2,7 +2,7 @@
 ghost use Rattle.std.specs.Prelude.{◌≡◌};
 ghost use Rattle.dem_outside.specs.Change.{change};
 ghost use Rattle.dem_top.specs.Refusals.{outcome_status as outcome_status_of};
-ghost use Rattle.dem_top.specs.Parts.{read_stop, scene_stop, run_stop, bin_stop, world_stop, run_outcome, Tells};
+ghost use Rattle.dem_top.specs.Parts.{read_stop, scene_stop, run_stop, bin_stop, pack_stop, world_stop, run_outcome, Tells};
 ghost use Rattle.dem_top.specs.declared.outcome.NotDone.TheVariants as stops;
 
 use crate::reading::ReadFault;
@@ -13,6 +13,7 @@ use dem_core::WorldStop;
 use dem_model::{Last, OutOfMemory};
 use dem_output::RunFault;
 use dem_outside::{Failed, Sink};
+use dem_pack::PackFault;
 use dem_scene::SceneFault;
 
 /// How a job ended that was done.
@@ -84,6 +85,17 @@ impl From<BinTooSmall> for NotDone {
 
     fn from(fault: BinTooSmall) -> NotDone {
         NotDone::Refused(Refusal::Bin(fault.cells))
+    }
+}
+
+impl From<PackFault> for NotDone {
+    ghost from_gives = { λ f s. s ≡ pack_stop f };
+
+    fn from(fault: PackFault) -> NotDone {
+        match fault {
+            PackFault::OutOfMemory => NotDone::OutOfMemory,
+            _ => NotDone::Refused(Refusal::Pack(fault)),
+        }
     }
 }
 

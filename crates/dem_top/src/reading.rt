@@ -1,11 +1,13 @@
-//! Reading the source to its end, or past the longest input, and the scene that it has.
+//! Reading the source to its end, or past the longest input; the scene that it has, or the input of a scene and more.
 ghost use Rattle.std.specs.Prelude.{◌≡◌, ◌+◌, ◌<◌, ◌^◌};
 ghost use Rattle.dem_outside.specs.Change.{change, LosesAtMost};
 ghost use Rattle.dem_model.specs.declared.limits.TheConstants as limits;
-ghost use Rattle.dem_top.specs.Parts.{ReadsAll, ReadsScene};
+ghost use Rattle.dem_top.specs.Parts.{ReadsAll, ReadsInput, ReadsScene};
+ghost use Rattle.dem_top.specs.declared.reading.TheConstants as inputs;
 ghost use Rattle.dem_top.specs.declared.reading.ReadFault.TheVariants as faults;
 
 use crate::outcome::NotDone;
+use crate::refusal::Refusal;
 use dem_model::{MAX_TEXT, Scene};
 use dem_outside::{Failed, Source};
 use dem_scene::read_scene;
@@ -33,6 +35,9 @@ impl From<AllocError> for ReadFault {
         ReadFault::OutOfMemory
     }
 }
+
+/// The longest input of a scene and more, in bytes.
+pub(crate) const MAX_INPUT: usize = 268_435_456;
 
 /// The most bytes of one read.
 const PIECE: usize = 4096;
@@ -67,4 +72,16 @@ pub(crate) fn read_one_scene<S: Source>(alloc: Global, source: &mut S) -> Result
 {
     let bytes = read_all(alloc, source, MAX_TEXT)?;
     Ok(read_scene(alloc, bytes.as_slice())?)
+}
+
+/// The input of a scene and more that the source has, where it isn't too long.
+pub(crate) fn read_input<S: Source>(alloc: Global, source: &mut S) -> Result<Vec<u8>, NotDone>
+    ensures read { ReadsInput (change S.left S.faults source.old source.new) result }
+    ensures taken { LosesAtMost (inputs.MAX_INPUT + 1) (change S.left S.faults source.old source.new) }
+{
+    let input = read_all(alloc, source, MAX_INPUT)?;
+    if input.len() > MAX_INPUT {
+        return Err(NotDone::Refused(Refusal::TooLong));
+    }
+    Ok(input)
 }

@@ -2,12 +2,14 @@
 ghost use Rattle.std.specs.Prelude.{◌≡◌, length};
 ghost use Rattle.dem_outside.specs.Change.{change};
 ghost use Rattle.dem_top.specs.Verdicts.{bin_text};
+ghost use Rattle.dem_top.specs.Packed.{pack_text, room_text};
 ghost use Rattle.dem_top.specs.Refusals.{refusal_text, refusal_status as refusal_status_of};
 ghost use Rattle.dem_top.specs.Parts.{PutsLine};
 
 use crate::status::WRITE_FAILED;
 use arrayvec::ArrayVec;
 use dem_outside::{Failed, Sink};
+use dem_pack::PackFault;
 use dem_scene::{SceneFault, fault_line};
 use itoa::Buffer;
 
@@ -24,6 +26,12 @@ pub(crate) enum Refusal {
     TooLong,
     /// The line between a scene and its rows is missing.
     NoFrames,
+    /// The line between a scene and the row of a packing is missing.
+    NoPack,
+    /// The row of a packing is none.
+    NoRow,
+    /// The packing is refused.
+    Pack(PackFault),
 }
 
 const USAGE: &[u8] =
@@ -32,6 +40,10 @@ const USAGE: &[u8] =
 const TOO_LONG: &[u8] = b"input: longer than 268435456 bytes\n";
 
 const NO_FRAMES: &[u8] = b"frames: missing\n";
+
+const NO_PACK: &[u8] = b"pack: missing\n";
+
+const NO_ROW: &[u8] = b"pack: row\n";
 
 /// The longest line of a refused bin has 41 bytes: `bin: `, a number of 20, ` cells, limit 8` and a newline.
 const BIN_ROOM: usize = 48;
@@ -50,6 +62,23 @@ fn bin_line(cells: u64) -> ArrayVec<u8, BIN_ROOM>
     line
 }
 
+/// The longest line of a region with too few cells has 22 bytes: `pack: room `, a number of 10 and a newline.
+const ROOM_ROOM: usize = 24;
+
+// The line of a region with too few cells.
+#[tactic(auto, unfolding(crate::specs::Packed::room_text))]
+fn room_line(cells: u32) -> ArrayVec<u8, ROOM_ROOM>
+    ensures { result.items ≡ room_text cells }
+{
+    let mut digits = Buffer::new();
+    let mut line = ArrayVec::new();
+    line.try_extend_from_slice(b"pack: room ").unwrap();
+    line.try_extend_from_slice(digits.format(cells).as_bytes())
+        .unwrap();
+    line.try_extend_from_slice(b"\n").unwrap();
+    line
+}
+
 /// The status of a refusal.
 pub(crate) fn refusal_status(refusal: Refusal) -> u8
     ensures { result ≡ refusal_status_of refusal }
@@ -57,6 +86,7 @@ pub(crate) fn refusal_status(refusal: Refusal) -> u8
     match refusal {
         Refusal::Usage => 1,
         Refusal::Scene(_) | Refusal::Bin(_) | Refusal::TooLong | Refusal::NoFrames => 2,
+        Refusal::NoPack | Refusal::NoRow | Refusal::Pack(_) => 2,
     }
 }
 
@@ -71,6 +101,23 @@ pub(crate) fn refuse<N: Sink>(refusal: Refusal, note: &mut N) -> u8
         Refusal::Bin(cells) => put_line(bin_line(cells).as_slice(), status, note),
         Refusal::TooLong => put_line(TOO_LONG, status, note),
         Refusal::NoFrames => put_line(NO_FRAMES, status, note),
+        Refusal::NoPack => put_line(NO_PACK, status, note),
+        Refusal::NoRow => put_line(NO_ROW, status, note),
+        Refusal::Pack(fault) => refuse_packing(fault, status, note),
+    }
+}
+
+// Puts the line of a packing that is refused, and gives this status.
+fn refuse_packing<N: Sink>(fault: PackFault, status: u8, note: &mut N) -> u8
+    ensures { PutsLine status (pack_text fault) (change N.held N.faults note.old note.new) result }
+{
+    match fault {
+        PackFault::Index => put_line(b"pack: index\n", status, note),
+        PackFault::Region => put_line(b"pack: region\n", status, note),
+        PackFault::Shape => put_line(b"pack: shape\n", status, note),
+        PackFault::Spheres => put_line(b"pack: spheres\n", status, note),
+        PackFault::Room { cells } => put_line(room_line(cells).as_slice(), status, note),
+        PackFault::OutOfMemory => put_line(b"", status, note),
     }
 }
 

@@ -10,6 +10,7 @@ ghost use Rattle.dem_top.specs.Answers.{Answers};
 use crate::comparison::compare;
 use crate::made::summarize;
 use crate::outcome::{NotDone, Outcome, tell};
+use crate::packing::fill;
 use crate::plain::plain;
 use crate::refusal::{Refusal, refuse};
 use crate::run::run;
@@ -130,8 +131,7 @@ fn carry_out<S: Source, K: Sink, N: Sink>(
         Mode::Sched => sched(alloc, order, source, out, note),
         Mode::Check => compare(alloc, source, out),
         Mode::Gen => summarize(alloc, order, out),
-        Mode::Run | Mode::Resume | Mode::Look | Mode::Pack => {
-            Err(NotDone::Refused(Refusal::Usage))
-        }
+        Mode::Pack => fill(alloc, order, source, out),
+        Mode::Run | Mode::Resume | Mode::Look => Err(NotDone::Refused(Refusal::Usage)),
     }
 }

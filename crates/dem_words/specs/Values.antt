@@ -73,6 +73,7 @@ is_built modes.Sched = true
 is_built modes.Run = true
 is_built modes.Check = true
 is_built modes.Gen = true
+is_built modes.Pack = true
 is_built mode = false
 
 -- the mode that is named, where the program has it

@@ -12,7 +12,7 @@ pub const MAX_DRIFT: u64 = 1024;
 /// The greatest edge of a bin, in u.
 pub const MAX_BIN: u64 = 1 << 38;
 
-/// The greatest number of clumps of a made scene.
+/// The greatest number of clumps of a made or packed scene.
 pub const MAX_COUNT: u64 = 16_384;
 
 /// What the program is asked to do.
@@ -48,7 +48,7 @@ pub struct Order {
     pub turns: List<Turn>,
     /// What the words of a made scene start from.
     pub seed: u64,
-    /// The number of clumps of a made scene, 1 to 16,384.
+    /// The number of clumps of a made or packed scene, 1 to 16,384.
     pub count: u32,
     /// Whether the taken lists and the tests are noted.
     pub report: bool,

@@ -99,7 +99,6 @@ fn refuses_a_wrong_value(rt: HostRuntime) -> Result<(), Fail> {
         ["dem", "fly"].as_slice(),
         ["dem", "Plain"].as_slice(),
         ["dem", "look"].as_slice(),
-        ["dem", "pack"].as_slice(),
         ["dem", "sched", "--drift", "1025"].as_slice(),
         ["dem", "sched", "--drift", "+7"].as_slice(),
         ["dem", "sched", "--drift="].as_slice(),

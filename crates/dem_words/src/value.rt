@@ -85,6 +85,6 @@ pub(crate) fn is_built(mode: Mode) -> bool
 {
     matches!(
         mode,
-        Mode::Plain | Mode::Sched | Mode::Run | Mode::Check | Mode::Gen
+        Mode::Plain | Mode::Sched | Mode::Run | Mode::Check | Mode::Gen | Mode::Pack
     )
 }

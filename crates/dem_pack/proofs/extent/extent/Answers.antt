@@ -1,4 +1,4 @@
-use Rattle.std.proofs.Common.{ℕ, ◌≡◌, ◌+◌, ◌≤◌, ◌^◌, ◌∙◌, sym, ap, ap₂, arith}
+use Rattle.std.proofs.Common.{ℕ, ◌+◌, ◌≤◌, ◌∙◌, sym, ap₂, arith}
 use Rattle.std.specs.Prelude.{max}
 use Rattle.dem_pack.proofs.ExtentFacts.{extent-none, extent-more}
 use Rattle.dem_pack.proofs.extent.extent.Goals as goal

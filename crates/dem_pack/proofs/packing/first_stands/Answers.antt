@@ -1,7 +1,6 @@
-use Rattle.std.proofs.Common.{ℕ, ◌≡◌, ◌+◌, ◌++◌, ◌∷◌, [], ◌∙◌, sym, ap, subst, map, take, arith, rules, Some}
+use Rattle.std.proofs.Common.{◌∙◌, sym, ap}
 use Rattle.std.specs.Prelude.{slice_get}
 use Rattle.dem_model.specs.Cells.{cells_of}
-use Rattle.dem_model.specs.Packing.{stand_at}
 use Rattle.dem_pack.specs.Layouts.{lattice_in, region_in}
 use Rattle.dem_pack.proofs.StandFacts.{stands-more}
 use Rattle.dem_pack.proofs.packing.first_stands.Goals as goal

@@ -1,4 +1,4 @@
-use Rattle.std.proofs.Common.{ℕ, ◌≡◌, ◌+◌, ◌*◌, ◌/◌, ◌≤◌, ◌^◌, ◌∙◌, sym, ap, subst, arith}
+use Rattle.std.proofs.Common.{◌≤◌, ◌^◌, arith}
 use Rattle.dem_pack.proofs.packing.layout.Goals as goal
 use Rattle.dem_pack.proofs.packing.layout.Goals.{in-Grid, in-Staggered}
 

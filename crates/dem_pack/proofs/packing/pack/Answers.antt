@@ -1,15 +1,15 @@
 use Rattle.std.proofs.Common.{◌≡◌, ◌∙◌, ◌<◌, length, subst, List, ap, sym}
-use Rattle.std.specs.Prelude.{Result, slice_get}
+use Rattle.std.specs.Prelude.{slice_get}
 use Rattle.dem_model.specs.SceneValue.{SceneValue}
 use Rattle.dem_model.specs.declared.shape.Template.{Template}
 use Rattle.dem_model.specs.Packing.{IsPacking}
 use Rattle.dem_model.specs.Sound.{IsSound}
-use Rattle.dem_model.specs.Stands.{CanStand}
-use Rattle.dem_model.specs.declared.state.Stand.{Stand}
-use Rattle.dem_pack.specs.Asks.{Answers, answer_of}
+use Rattle.dem_model.specs.Stands.{CanStand, with_stands}
 use Rattle.dem_pack.proofs.AnswerFacts.{answer-by-template, balls-found, on-answer}
 use Rattle.dem_pack.proofs.BodyFacts.{stands-can}
 use Rattle.dem_pack.proofs.CanFacts.{stands-packed, stands-count}
+use Rattle.dem_pack.specs.Starts.{BeginsApart}
+use Rattle.dem_pack.proofs.StartFacts.{begins-apart}
 use Rattle.dem_pack.proofs.packing.pack.Goals as goal
 
 pub returns-clause-answer : goal.returns-clause-answer
@@ -32,3 +32,8 @@ pub returns-clause-sound : goal.returns-clause-sound
 returns-clause-sound c =
     on-answer (λ stands. CanStand c.args.scene.now stands) c.args.scene.now c.args.ask.now c.stands_of.result (returns-clause-answer c)
     (λ stands is. stands-can c.args.scene.now c.args.ask.now stands (subst IsSound c.scene.view_is c.scene.invariant) c.requires is)
+
+pub returns-clause-untouched : goal.returns-clause-untouched
+returns-clause-untouched c =
+    on-answer (λ stands. BeginsApart (with_stands c.args.scene.now stands)) c.args.scene.now c.args.ask.now c.stands_of.result (returns-clause-answer c)
+    (λ stands is. begins-apart c.args.ask.now.gap c.args.scene.now stands (stands-packed c.args.scene.now c.args.ask.now stands c.requires is).clear)

@@ -1,4 +1,4 @@
-use Rattle.std.proofs.Common.{◌≡◌, ◌+◌, ◌*◌, ◌≤◌, pos, Fits, FitsSigned, w64, sym, ap, ◌∙◌, refl, arith}
+use Rattle.std.proofs.Common.{◌+◌, ◌*◌, w64, arith}
 use Rattle.std.proofs.lemmas.Int.{to_z_pos}
 use Rattle.dem_model.specs.Cells.{place_at}
 use Rattle.dem_pack.specs.Layouts.{span_of}

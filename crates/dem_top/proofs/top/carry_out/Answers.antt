@@ -1,6 +1,7 @@
 use Rattle.dem_outside.specs.Change.{Stream, change}
 use Rattle.dem_top.specs.Parts.{idle}
 use Rattle.dem_top.proofs.SummaryFacts.{gen-does}
+use Rattle.dem_top.proofs.PackedFacts.{pack-does}
 use Rattle.dem_top.proofs.top.carry_out.Goals as goal
 
 pub returns-in-Plain-clause-does : goal.returns-in-Plain-clause-does
@@ -17,3 +18,10 @@ returns-in-Gen-clause-does g c =
     let note : Stream = record { bytes = g.N.Sink.held c.args.note.now; faults = g.N.Sink.faults c.args.note.now } in
     let out = change g.K.Sink.held g.K.Sink.faults c.args.out.now c.summarize.new.out in
     gen-does c.args.order.now source out (idle note) c.summarize.result (rw (← c.order.view_is) c.in-Gen.is) (c.summarize.ensures note)
+
+pub returns-in-Pack-clause-does : goal.returns-in-Pack-clause-does
+returns-in-Pack-clause-does g c =
+    let source = change g.S.Source.left g.S.Source.faults c.args.source.now c.fill.new.source in
+    let out = change g.K.Sink.held g.K.Sink.faults c.args.out.now c.fill.new.out in
+    let note : Stream = record { bytes = g.N.Sink.held c.args.note.now; faults = g.N.Sink.faults c.args.note.now } in
+    pack-does c.args.order.now source out note c.fill.result (rw (← c.order.view_is) c.in-Pack.is) c.fill.ensures.does

@@ -1,12 +1,11 @@
-use Rattle.std.proofs.Common.{◌≡◌, ℕ, ◌^◌, ◌+◌, ◌-◌, ◌*◌, ◌/◌, ◌%◌, ◌<◌, ◌≤◌, nat_lt, Some, Fits, w64, sym, ap, ◌∙◌, subst, arith}
+use Rattle.std.proofs.Common.{◌≡◌, ℕ, ◌^◌, ◌+◌, ◌-◌, ◌*◌, ◌/◌, ◌%◌, ◌<◌, ◌≤◌, Some, sym, ap, ◌∙◌, subst, arith}
 use Rattle.std.specs.Prelude.{if◌then◌else◌}
 use Rattle.std.proofs.lemmas.Bool.{lt-ltb, le-ltb}
-use Rattle.std.proofs.lemmas.Nat.{div-add-mod', mod_below}
-use Rattle.dem_model.specs.Cells.{cells_of, layer_count}
+use Rattle.dem_model.specs.Cells.{layer_count}
 use Rattle.dem_pack.specs.Layers.{cell_in, layer_size}
 use Rattle.dem_pack.specs.Layouts.{IsLayout, lattice_in, region_in, span_of}
 use Rattle.dem_pack.specs.declared.layout.Layout.{Layout}
-use Rattle.dem_pack.proofs.CellFacts.{both-size, cell-number, has-both, slice_get-cells, even-there, odd-there, even-within, odd-within}
+use Rattle.dem_pack.proofs.CellFacts.{both-size, has-both, slice_get-cells, even-there, odd-there, even-within, odd-within}
 use Rattle.dem_pack.proofs.SpanFacts.{count-few}
 use Rattle.dem_pack.proofs.layout.Layout.cell.Goals as goal
 

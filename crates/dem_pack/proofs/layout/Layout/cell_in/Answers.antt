@@ -1,9 +1,9 @@
-use Rattle.std.proofs.Common.{◌≡◌, ◌+◌, ◌*◌, ◌/◌, ◌%◌, ◌<◌, ◌≤◌, w64, pos, sym, ap, ◌∙◌, subst, arith}
+use Rattle.std.proofs.Common.{◌≡◌, ◌/◌, ◌%◌, ◌<◌, w64, pos, sym, ap, ◌∙◌, subst}
 use Rattle.std.proofs.lemmas.Int.{to_z-of_z}
-use Rattle.std.proofs.lemmas.Nat.{mod_below, div_below}
-use Rattle.dem_model.specs.Cells.{Span, cell_at, layer_count, place_at, place_count, shifted_at}
-use Rattle.dem_pack.specs.Layers.{cell_in, grid_cell, layer_size, columns_of, rows_of}
-use Rattle.dem_pack.specs.Layouts.{lattice_in, region_in, span_of}
+use Rattle.std.proofs.lemmas.Nat.{mod_below}
+use Rattle.dem_model.specs.Cells.{Span, layer_count, place_at, shifted_at}
+use Rattle.dem_pack.specs.Layers.{cell_in, grid_cell, columns_of}
+use Rattle.dem_pack.specs.Layouts.{lattice_in, region_in}
 use Rattle.dem_pack.proofs.CellFacts.{has-columns, in-row}
 use Rattle.dem_pack.proofs.layout.Layout.cell_in.Goals as goal
 

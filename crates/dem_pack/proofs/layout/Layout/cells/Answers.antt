@@ -1,4 +1,4 @@
-use Rattle.std.proofs.Common.{◌≡◌, ◌+◌, ◌-◌, ◌*◌, ◌/◌, sym, ap, ◌∙◌, arith}
+use Rattle.std.proofs.Common.{◌≡◌, sym, ◌∙◌}
 use Rattle.dem_model.specs.Cells.{cells_of, layer_count}
 use Rattle.dem_pack.specs.Layouts.{lattice_in, region_in}
 use Rattle.dem_pack.proofs.LayerFacts.{cell-count}

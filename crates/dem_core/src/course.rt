@@ -21,6 +21,8 @@ use std::alloc::Global;
 use std::marker::Model;
 use std::sync::ledger::Ledger;
 
+mod splitting;
+
 /// A run of a scene on lists of near pairs, without the exchange that brings them: seen as the scene, the drift limit, and
 /// how far it has come. It writes what the plain run writes.
 #[derive(Drop)]

@@ -21,14 +21,16 @@ use dem_swap::Parcel;
 use std::alloc::Global;
 use std::sync::Wait;
 use std::sync::ledger::{Blank, Ledger};
+use std::thread::Threads;
 
 /// Makes the run of a scene on one thread, with a counter over this blank for the tests of the lists, which nobody reads.
-pub fn run_alone<R: Wait, K: Sink, N: Sink, G: Gate, L: Ledger, B: Ledger>(
+pub fn run_alone<R: Threads + Wait + Sync, K: Sink, N: Sink, G: Gate, L: Ledger, B: Ledger>(
     rt: &R,
     alloc: Global,
     parcel: Parcel,
     shapes: &Shapes,
     grid: &Grid,
+    split: bool,
     out: &mut K,
     note: &mut N,
     gate: &G,
@@ -48,15 +50,16 @@ pub fn run_alone<R: Wait, K: Sink, N: Sink, G: Gate, L: Ledger, B: Ledger>(
 {
     let mut finder = Finder::<B>::new(alloc, shapes, grid, blank);
     let mut work = Work::new(alloc, shapes, grid, parcel, out)?;
-    let last = work.finish_alone(rt, &mut finder, out, note, gate, tests)?;
+    let last = work.finish_alone(rt, split, &mut finder, out, note, gate, tests)?;
     Ok(work.close(last, note)?)
 }
 
 impl<'s> Work<'s> {
     /// Steps as long as the run may, and else makes a new list, until the run has ended; answers how.
-    fn finish_alone<R: Wait, K: Sink, N: Sink, G: Gate, L: Ledger, B: Ledger>(
+    fn finish_alone<R: Threads + Wait + Sync, K: Sink, N: Sink, G: Gate, L: Ledger, B: Ledger>(
         &mut self,
         rt: &R,
+        split: bool,
         finder: &mut Finder<B>,
         out: &mut K,
         note: &mut N,
@@ -80,7 +83,7 @@ impl<'s> Work<'s> {
             if let Some(last) = self.course.last() {
                 return Ok(last);
             }
-            if !self.step(out, gate, tests)? {
+            if !self.step(rt, split, out, gate, tests)? {
                 self.renew(finder, note, gate)?;
             }
         }

@@ -36,6 +36,7 @@ pub fn run_two<R: Threads + Wait + Sync, K: Sink, N: Sink, G: Gate, L: Ledger>(
     alloc: Global,
     shapes: &Shapes,
     grid: &Grid,
+    split: bool,
     out: &mut K,
     note: &mut N,
     gate: &G,
@@ -51,14 +52,15 @@ pub fn run_two<R: Threads + Wait + Sync, K: Sink, N: Sink, G: Gate, L: Ledger>(
     match Swap::new(alloc, shapes, grid.drift()) {
         Ok((swap, first, second, parcel)) => {
             match beside(
-                &*rt, alloc, &swap, first, second, parcel, &*shapes, &*grid, out, note, &*gate,
-                tests,
+                &*rt, alloc, &swap, first, second, parcel, &*shapes, &*grid, split, out, note,
+                &*gate, tests,
             ) {
                 Ok(answer) => answer,
                 Err(parcel) => {
                     let blank = Blank::new(1);
                     match run_alone::<R, K, N, G, L, Brand>(
-                        &*rt, alloc, parcel, &*shapes, &*grid, out, note, &*gate, tests, blank,
+                        &*rt, alloc, parcel, &*shapes, &*grid, split, out, note, &*gate, tests,
+                        blank,
                     ) {
                         Ok(ran) => Ok(ran),
                         Err(stop) => Err(RunFault::from(stop)),
@@ -80,6 +82,7 @@ fn beside<'a, R: Threads + Wait + Sync, K: Sink, N: Sink, G: Gate, L: Ledger>(
     parcel: Parcel,
     shapes: &'a Shapes<'a>,
     grid: &'a Grid,
+    split: bool,
     out: &mut K,
     note: &mut N,
     gate: &'a G,
@@ -127,7 +130,8 @@ fn beside<'a, R: Threads + Wait + Sync, K: Sink, N: Sink, G: Gate, L: Ledger>(
             match started {
                 Ok(_) => {
                     let answer = dynamics(
-                        rt, alloc, swap, &mut first, parcel, shapes, grid, out, note, gate, tests,
+                        rt, alloc, swap, &mut first, parcel, shapes, grid, split, out, note, gate,
+                        tests,
                     );
                     (Ok(answer), out, note, tests)
                 }

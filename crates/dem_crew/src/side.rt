@@ -20,12 +20,13 @@ use dem_swap::{DynSeat, Parcel, Swap};
 use std::alloc::Global;
 use std::sync::Wait;
 use std::sync::ledger::Ledger;
+use std::thread::Threads;
 
 /// Makes the run: posts its states, takes the lists that come back into use, and steps as long as the list in use isn't too old.
 /// Writes the output to `out`, and to `note` a row for each list and one for the tests. Raises the stop before it leaves, however
 /// that is. `tests` counts the pairs that the steps test. Where a put fails or memory is refused, `out` and `note` have prefixes of
 /// such.
-pub fn dynamics<R: Wait, K: Sink, N: Sink, G: Gate, L: Ledger>(
+pub fn dynamics<R: Threads + Wait + Sync, K: Sink, N: Sink, G: Gate, L: Ledger>(
     rt: &R,
     alloc: Global,
     swap: &Swap,
@@ -33,6 +34,7 @@ pub fn dynamics<R: Wait, K: Sink, N: Sink, G: Gate, L: Ledger>(
     parcel: Parcel,
     shapes: &Shapes,
     grid: &Grid,
+    split: bool,
     out: &mut K,
     note: &mut N,
     gate: &G,
@@ -52,7 +54,7 @@ pub fn dynamics<R: Wait, K: Sink, N: Sink, G: Gate, L: Ledger>(
     ensures counted { IfOk result (λ ran. tests.new ≤ tests.old + ran.tests) }
 {
     let answer = make_run(
-        rt, alloc, swap, seat, parcel, shapes, grid, out, note, gate, tests,
+        rt, alloc, swap, seat, parcel, shapes, grid, split, out, note, gate, tests,
     );
     swap.raise(seat);
     match answer {
@@ -62,7 +64,7 @@ pub fn dynamics<R: Wait, K: Sink, N: Sink, G: Gate, L: Ledger>(
 }
 
 /// Makes the run, and leaves the stop as it is.
-fn make_run<R: Wait, K: Sink, N: Sink, G: Gate, L: Ledger>(
+fn make_run<R: Threads + Wait + Sync, K: Sink, N: Sink, G: Gate, L: Ledger>(
     rt: &R,
     alloc: Global,
     swap: &Swap,
@@ -70,6 +72,7 @@ fn make_run<R: Wait, K: Sink, N: Sink, G: Gate, L: Ledger>(
     parcel: Parcel,
     shapes: &Shapes,
     grid: &Grid,
+    split: bool,
     out: &mut K,
     note: &mut N,
     gate: &G,
@@ -89,6 +92,6 @@ fn make_run<R: Wait, K: Sink, N: Sink, G: Gate, L: Ledger>(
     ensures counted { IfOk result (λ ran. tests.new ≤ tests.old + ran.tests) }
 {
     let mut work = Work::new(alloc, shapes, grid, parcel, out)?;
-    let last = work.finish(rt, swap, seat, out, note, gate, tests)?;
+    let last = work.finish(rt, split, swap, seat, out, note, gate, tests)?;
     Ok(work.close(last, note)?)
 }

@@ -41,7 +41,9 @@ fn run<R: Threads + Wait + Sync, L: Ledger>(
     requires grid { IsGridOf shapes.now grid.now }
 {
     let mut tests = Steps::<L>::new(blank);
-    run_two(rt, alloc, shapes, grid, out, note, &OpenGate, &mut tests)
+    run_two(
+        rt, alloc, shapes, grid, false, out, note, &OpenGate, &mut tests,
+    )
 }
 
 #[test]

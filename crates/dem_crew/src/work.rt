@@ -24,6 +24,7 @@ use dem_swap::{DynSeat, Parcel, Swap};
 use std::alloc::Global;
 use std::sync::Wait;
 use std::sync::ledger::Ledger;
+use std::thread::Threads;
 
 /// A run on lists, the parcel while it is at home, and how many lists were taken into use.
 #[derive(Drop)]
@@ -79,9 +80,10 @@ impl<'s> Work<'s> {
     }
 
     /// Makes turns until the run has ended; answers how. Where there is nothing to do it rests between them.
-    pub fn finish<R: Wait, K: Sink, N: Sink, G: Gate, L: Ledger>(
+    pub fn finish<R: Threads + Wait + Sync, K: Sink, N: Sink, G: Gate, L: Ledger>(
         &mut self,
         rt: &R,
+        split: bool,
         swap: &Swap,
         seat: &mut DynSeat,
         out: &mut K,
@@ -105,15 +107,17 @@ impl<'s> Work<'s> {
             if let Some(last) = self.course.last() {
                 return Ok(last);
             }
-            let was_busy = self.turn(swap, seat, out, note, gate, tests)?;
+            let was_busy = self.turn(rt, split, swap, seat, out, note, gate, tests)?;
             rest.after(rt, was_busy);
         }
         unreachable!()
     }
 
     /// Posts, tries once to collect and steps, as far as the run may; whether it collected or stepped.
-    fn turn<K: Sink, N: Sink, G: Gate, L: Ledger>(
+    fn turn<R: Threads + Sync, K: Sink, N: Sink, G: Gate, L: Ledger>(
         &mut self,
+        rt: &R,
+        split: bool,
         swap: &Swap,
         seat: &mut DynSeat,
         out: &mut K,
@@ -136,7 +140,7 @@ impl<'s> Work<'s> {
         let _course = self.course.now();
         self.post(swap, seat, gate);
         let has_collected = self.collect(swap, seat, note, gate)?;
-        let has_stepped = self.step(out, gate, tests)?;
+        let has_stepped = self.step(rt, split, out, gate, tests)?;
         Ok(has_collected || has_stepped)
     }
 
@@ -241,8 +245,10 @@ impl<'s> Work<'s> {
     }
 
     /// Makes a step, if the run may, and else makes ahead what the next step needs; whether it made the step.
-    pub fn step<K: Sink, G: Gate, L: Ledger>(
+    pub fn step<R: Threads + Sync, K: Sink, G: Gate, L: Ledger>(
         &mut self,
+        rt: &R,
+        split: bool,
         out: &mut K,
         gate: &G,
         tests: &mut Steps<L>,
@@ -264,7 +270,12 @@ impl<'s> Work<'s> {
             return Ok(false);
         }
         gate.pass(Point::Step, self.course.now() as u64 + 1);
-        self.course.step(out, tests)?;
+        self.course.step_on(threads_for(rt, split), out, tests)?;
         Ok(true)
     }
+}
+
+/// The threads that contacts are computed by, where they are wanted.
+fn threads_for<R>(rt: &R, split: bool) -> Option<&R> {
+    if split { Some(rt) } else { None }
 }

@@ -73,7 +73,7 @@ fn through<R: Threads + Wait + Sync, L: Ledger>(
     requires grid { IsGridOf shapes.now grid.now }
 {
     let mut tests = Steps::<L>::new(blank);
-    run_two(rt, alloc, shapes, grid, out, note, gate, &mut tests)
+    run_two(rt, alloc, shapes, grid, false, out, note, gate, &mut tests)
 }
 
 /// A sink at which no put fails while it has room.

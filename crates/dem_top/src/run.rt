@@ -51,9 +51,18 @@ fn run_scene<R: Threads + Wait + Sync, K: Sink, N: Sink, G: Gate>(
     let shapes = Shapes::new(alloc, scene)?;
     let grid = Grid::check(&shapes, order.drift, order.bin)?;
     if order.report {
-        let last = write_by_threads(rt, alloc, &shapes, &grid, out, note, gate)?;
+        let last = write_by_threads(rt, alloc, &shapes, &grid, order.split, out, note, gate)?;
         return Ok(Outcome::from(last));
     }
-    let last = write_by_threads(rt, alloc, &shapes, &grid, out, &mut BlankSink, gate)?;
+    let last = write_by_threads(
+        rt,
+        alloc,
+        &shapes,
+        &grid,
+        order.split,
+        out,
+        &mut BlankSink,
+        gate,
+    )?;
     Ok(Outcome::from(last))
 }

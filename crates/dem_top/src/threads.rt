@@ -17,13 +17,14 @@ use std::sync::Wait;
 use std::sync::ledger::{Blank, Ledger};
 use std::thread::Threads;
 
-/// Makes the run of a scene by two threads, with lists by this grid; its output goes to `out`, the rows of its lists and its
+/// Makes the run of a scene by two threads, with lists by this grid, and the contacts of a step by several threads where it is to be split; its output goes to `out`, the rows of its lists and its
 /// tests to `note`.
 pub(crate) fn write_by_threads<R: Threads + Wait + Sync, K: Sink, N: Sink, G: Gate>(
     rt: &R,
     alloc: Global,
     shapes: &Shapes,
     grid: &Grid,
+    split: bool,
     out: &mut K,
     note: &mut N,
     gate: &G,
@@ -31,7 +32,17 @@ pub(crate) fn write_by_threads<R: Threads + Wait + Sync, K: Sink, N: Sink, G: Ga
     requires { IsGridOf shapes.now grid.now }
     ensures { RunsThreads shapes.now grid.now.drift (change K.held K.faults out.old out.new) (change N.held N.faults note.old note.new) result }
 {
-    counted::<Brand, R, K, N, G>(rt, alloc, shapes, grid, out, note, gate, Blank::new(1))
+    counted::<Brand, R, K, N, G>(
+        rt,
+        alloc,
+        shapes,
+        grid,
+        split,
+        out,
+        note,
+        gate,
+        Blank::new(1),
+    )
 }
 
 // The same with a counter of tests that nobody reads.
@@ -40,6 +51,7 @@ fn counted<L: Ledger, R: Threads + Wait + Sync, K: Sink, N: Sink, G: Gate>(
     alloc: Global,
     shapes: &Shapes,
     grid: &Grid,
+    split: bool,
     out: &mut K,
     note: &mut N,
     gate: &G,
@@ -52,7 +64,7 @@ fn counted<L: Ledger, R: Threads + Wait + Sync, K: Sink, N: Sink, G: Gate>(
     ensures { RunsThreads shapes.now grid.now.drift (change K.held K.faults out.old out.new) (change N.held N.faults note.old note.new) result }
 {
     let mut tests = Steps::<L>::new(blank);
-    match run_two(rt, alloc, shapes, grid, out, note, gate, &mut tests) {
+    match run_two(rt, alloc, shapes, grid, split, out, note, gate, &mut tests) {
         Ok(ran) => Ok(ran.last),
         Err(fault) => Err(stop_of(fault)),
     }

@@ -1,12 +1,14 @@
 //! The step on a list with its contacts computed by several threads.
 
+ghost use Rattle.std.specs.Prelude.{◌+◌, ◌≤◌, length};
 ghost use Rattle.dem_step.specs.Split.{SplitsOnList};
-ghost use Rattle.dem_step.specs.Stepper.{CanStep};
+ghost use Rattle.dem_step.specs.Stepper.{CanStep, StepsOnList};
 
 use crate::advancing::advance_all;
 use crate::split::{SplitStop, meet_split};
 use crate::stepper::{Dyn, steps_left};
-use dem_model::OutOfMemory;
+use dem_model::{End, OutOfMemory, Steps};
+use std::sync::ledger::Ledger;
 use std::thread::Threads;
 
 impl<'s> Dyn<'s> {
@@ -54,6 +56,39 @@ impl<'s> Dyn<'s> {
                 Ok(())
             }
             Err(end) => Err(SplitStop::Ended(end)),
+        }
+    }
+
+    /// Makes the step of `step`, with its contacts computed by several threads where they are given and memory is had.
+    pub fn step_on<R: Threads + Sync, L: Ledger>(
+        &mut self,
+        threads: Option<&R>,
+        tests: &mut Steps<L>,
+    ) -> Result<(), End>
+        requires { CanStep self.old }
+        ensures step { StepsOnList self.old self.new result }
+        ensures counted { tests.new ≤ tests.old + length self.old.contacts.list.pairs }
+    {
+        match threads {
+            Some(rt) => self.step_by(rt, tests),
+            None => self.step(tests),
+        }
+    }
+
+    /// Makes the step of `step` by several threads where memory is had, and else by this one.
+    fn step_by<R: Threads + Sync, L: Ledger>(
+        &mut self,
+        rt: &R,
+        tests: &mut Steps<L>,
+    ) -> Result<(), End>
+        requires { CanStep self.old }
+        ensures step { StepsOnList self.old self.new result }
+        ensures counted { tests.new ≤ tests.old + length self.old.contacts.list.pairs }
+    {
+        match self.step_split(rt) {
+            Ok(()) => Ok(()),
+            Err(SplitStop::Ended(end)) => Err(end),
+            Err(SplitStop::OutOfMemory) => self.step(tests),
         }
     }
 }

@@ -12,6 +12,7 @@ use dem_step::Dyn;
 use std::alloc::Global;
 use std::marker::Brand;
 use std::sync::ledger::{Blank, Ledger};
+use std::thread::Threads;
 
 /// The drift limit of all lists, in steps.
 const DRIFT: u32 = 4;
@@ -26,33 +27,53 @@ pub struct Answers {
     pub finds: Vec<Found>,
     /// Where steps on one list lead.
     pub stand: Stand,
+    /// Where split steps on one list lead.
+    pub split: Stand,
     /// What the turns of a world come to.
     pub turns: Turned,
 }
 
 /// Makes the calls on a scene.
-pub fn ask(alloc: Global, scene: &Scene) -> Result<Answers, WorldStop> {
+pub fn ask<R: Threads + Sync>(rt: &R, alloc: Global, scene: &Scene) -> Result<Answers, WorldStop> {
     let shapes = Shapes::new(alloc, scene)?;
-    all::<Brand>(alloc, &shapes, Blank::new(1))
+    all::<R, Brand>(rt, alloc, &shapes, Blank::new(1))
 }
 
 /// Makes the calls, with their tests counted on a counter that nobody reads.
-fn all<L: Ledger>(alloc: Global, shapes: &Shapes, blank: Blank) -> Result<Answers, WorldStop>
+fn all<R: Threads + Sync, L: Ledger>(
+    rt: &R,
+    alloc: Global,
+    shapes: &Shapes,
+    blank: Blank,
+) -> Result<Answers, WorldStop>
     requires name { blank.name ≡ L.name }
     requires parts { blank.parts ≡ L.parts }
     requires some { 0 < L.parts }
 {
     let mut tests = Steps::<L>::new(blank);
-    let mut run = Dyn::new(alloc, shapes, DRIFT)?;
+    let run = Dyn::new(alloc, shapes, DRIFT)?;
     let finds = all_finds(alloc, &run, &mut tests)?;
-    go_on_one_list(alloc, &mut run, &mut tests)?;
-    let stand = Stand::of(alloc, &run)?;
+    let stand = steps_lead::<R, L>(alloc, None, shapes, &mut tests)?;
+    let split = steps_lead(alloc, Some(rt), shapes, &mut tests)?;
     let turns = try_turns(alloc, shapes, DRIFT, &mut tests)?;
     Ok(Answers {
         finds,
         stand,
+        split,
         turns,
     })
+}
+
+/// Where steps on one list lead, split ones where threads are given.
+fn steps_lead<R: Threads + Sync, L: Ledger>(
+    alloc: Global,
+    threads: Option<&R>,
+    shapes: &Shapes,
+    tests: &mut Steps<L>,
+) -> Result<Stand, OutOfMemory> {
+    let mut run = Dyn::new(alloc, shapes, DRIFT)?;
+    go_on_one_list(alloc, threads, &mut run, tests)?;
+    Stand::of(alloc, &run)
 }
 
 /// What bins of each side find for the state of a run.

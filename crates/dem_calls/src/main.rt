@@ -1,6 +1,6 @@
 //! Calls of the engine by themselves, on stored scenes: reads scenes, one a line, and prints what the calls answer.
 //!
-//! For each scene: what bins of some sides find at its first state, where steps on one list lead, and what the first turns of a
+//! For each scene: what bins of some sides find at its first state, where steps on one list lead, and split ones, and what the first turns of a
 //! world come to. What is printed is the same each time. Not here: any promise (dem_bins, dem_step, dem_core).
 #![tactic(auto)]
 
@@ -24,12 +24,13 @@ fn main(rt: HostRuntime) -> anyhow::Result<()> {
             scene.clumps.len(),
             scene.steps
         )?;
-        match ask(rt.alloc(), &scene) {
+        match ask(&rt, rt.alloc(), &scene) {
             Ok(answers) => {
                 for found in answers.finds.as_slice() {
                     println!(rt; "{found}")?;
                 }
                 println!(rt; "{}", answers.stand)?;
+                println!(rt; "by split steps, {}", answers.split)?;
                 println!(rt; "{}", answers.turns)?;
             }
             Err(_) => println!(rt; "out of memory")?,

@@ -12,6 +12,7 @@ use dem_voxel::VoxelPos;
 use std::alloc::Global;
 use std::fmt::{self, Display, Formatter};
 use std::sync::ledger::Ledger;
+use std::thread::Threads;
 
 /// Where a run stands.
 #[derive(Drop)]
@@ -23,9 +24,10 @@ pub struct Stand {
     held: Vec<Held>,
 }
 
-/// Takes the near list of the state of a run into use, and makes all steps that may be made on it.
-pub fn go_on_one_list<L: Ledger>(
+/// Takes the near list of the state of a run into use, and makes all steps that may be made on it: split ones where threads are given.
+pub fn go_on_one_list<R: Threads + Sync, L: Ledger>(
     alloc: Global,
+    threads: Option<&R>,
     run: &mut Dyn,
     tests: &mut Steps<L>,
 ) -> Result<(), OutOfMemory> {
@@ -40,7 +42,11 @@ pub fn go_on_one_list<L: Ledger>(
         if !run.can_step() {
             break;
         }
-        if run.step(tests).is_err() {
+        let is_made = match threads {
+            Some(rt) => run.step_split(rt).is_ok(),
+            None => run.step(tests).is_ok(),
+        };
+        if !is_made {
             break;
         }
     }

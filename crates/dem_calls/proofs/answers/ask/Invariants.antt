@@ -1,4 +1,4 @@
 use Rattle.dem_calls.proofs.answers.ask.Given as goal
 
 abbrev pub ghosts-all : goal.ghosts-all
-ghosts-all a = record { name = a.blank.name; parts = a.blank.parts }
+ghosts-all g a = record { name = a.blank.name; parts = a.blank.parts }

@@ -13,7 +13,8 @@ use Rattle.dem_num.specs.declared.vector.Vec3.{Vec3}
 use Rattle.dem_model.specs.declared.state.Pair.{Pair}
 use Rattle.dem_model.specs.declared.state.Held.{Held}
 use Rattle.dem_model.specs.Step.{held_at, same_pair}
-use Rattle.dem_list.specs.Ascending.{pair_cmp, IsAscending}
+use Rattle.dem_model.specs.Pairs.{pair_cmp}
+use Rattle.dem_list.specs.Ascending.{IsAscending}
 use Rattle.dem_list.proofs.AscendingFacts.{pair_cmp-total}
 use Rattle.dem_model.specs.Carry.{held_of, kept_of, carried}
 use Rattle.dem_hist.specs.Inside.{AllBefore, IsReached}

@@ -4,7 +4,7 @@ use Rattle.std.specs.List.{AllWithin}
 use Rattle.std.specs.Ordering.{is_lt}
 use Rattle.std.specs.declared.cmp.Ordering.TheVariants.{Less}
 use Rattle.dem_model.specs.declared.state.Pair.{Pair}
-use Rattle.dem_list.specs.Ascending.{pair_cmp}
+use Rattle.dem_model.specs.Pairs.{pair_cmp}
 
 -- the pairs at the places below i come before a pair
 abbrev pub AllBefore : List Pair → ℕ → Pair → Type 0

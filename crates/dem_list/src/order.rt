@@ -2,7 +2,7 @@
 
 ghost use Rattle.std.specs.Prelude.{◌≡◌};
 ghost use Rattle.std.specs.Ordering.{is_lt};
-ghost use Rattle.dem_list.specs.Ascending.{pair_cmp};
+ghost use Rattle.dem_model.specs.Pairs.{pair_cmp};
 
 use dem_model::Pair;
 

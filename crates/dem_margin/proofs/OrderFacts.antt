@@ -11,11 +11,11 @@ use Rattle.std.proofs.lemmas.List.Kept.{IsStrictlySortedBy-filter}
 use Rattle.std.proofs.lemmas.Map.Keys.{Less-from_sorted, sorted_from_all_adjacent, sorted_tail}
 use Rattle.dem_num.specs.declared.vector.Vec3.{Vec3}
 use Rattle.dem_model.specs.SceneValue.{SceneValue}
-use Rattle.dem_model.specs.Pairs.{sphere_count, limit_of, pair_of, apart, row_below, pairs_below, all_pairs}
+use Rattle.dem_model.specs.Pairs.{sphere_count, limit_of, pair_of, apart, row_below, pairs_below, all_pairs, pair_cmp}
 use Rattle.dem_model.specs.Near.{near, near_of}
 use Rattle.dem_model.specs.declared.state.Pair.{Pair}
 use Rattle.dem_model.proofs.PairFacts.{row_below-more, row_below-start, pairs_below-more, pairs_below-none}
-use Rattle.dem_list.specs.Ascending.{pair_cmp, IsAscending, HasSamePairs}
+use Rattle.dem_list.specs.Ascending.{IsAscending, HasSamePairs}
 use Rattle.dem_list.proofs.AscendingFacts.{pair_cmp-total, IsAscending-none}
 
 -- ---- ascending lists of the same pairs

@@ -20,6 +20,8 @@ pub mod ReadingKinds
 pub mod ReadingScene
 pub mod Frames
 pub mod Output
+pub mod Fit
+pub mod Look
 pub mod Ranges
 pub mod Near
 pub mod Carry

@@ -1,6 +1,8 @@
 -- The pairs that may touch: a sphere, and a later sphere of another clump or a wall.
 use Rattle.std.specs.Prelude.{ℕ, pos, ◌+◌, ◌-◌, ◌==◌, Bool, true, not, ◌&&◌, List, length, map, filter, nat_lt, slice_index_or, if◌then◌else◌}
 use Rattle.std.specs.List.{flat_map, range_with_len}
+use Rattle.std.specs.Ordering.{nat_cmp, ordering_then}
+use Rattle.std.specs.declared.cmp.Ordering.{Ordering}
 use Rattle.dem_model.specs.SceneValue.{SceneValue}
 use Rattle.dem_model.specs.Spheres.{Sphere, spheres_of}
 use Rattle.dem_model.specs.declared.shape.Form.TheVariants.{Plane}
@@ -34,6 +36,10 @@ wall_at s i = slice_index_or s.walls (i - sphere_count s) no_wall
 -- the pair of two numbers
 abbrev pub pair_of : ℕ → ℕ → Pair
 pair_of a b = record { a = a; b = b }
+
+-- the order of pairs: by the first number, then by the second
+abbrev pub pair_cmp : Pair → Pair → Ordering
+pair_cmp p q = ordering_then (nat_cmp p.a q.a) (nat_cmp p.b q.b)
 
 -- whether the second is later, and a wall or a sphere of another clump
 unfoldable pub apart : SceneValue → Pair → Bool

@@ -1,8 +1,8 @@
 //! The plain types of the engine, and the definitions of all that it does.
 //!
-//! Types: scenes and their parts, bodies, states, ends, faults of a scene text, the contact law's sides, a list.
+//! Types: scenes and their parts, bodies, states, ends, faults of a scene text, the contact law's sides, a list, a look row.
 //! Means: `specs` in the order in which a step runs it: position, pairs, centers, touch, law, step, ends, plain run,
-//! frames, output; and the reading of a scene text. Callers rest on: a Scene keeps its ranges; a List is seen as a list.
+//! frames, output, what is seen of it; and the reading of a scene text. Callers rest on: a Scene keeps its ranges; a List is seen as a list.
 //! Takes memory: `List::push`. Not here: any computing (the crates above), numbers and rotations (dem_num).
 #![tactic(auto)]
 
@@ -10,6 +10,7 @@ mod fault;
 mod law;
 mod limits;
 mod list;
+mod look;
 mod scene;
 mod shape;
 mod state;
@@ -27,6 +28,7 @@ pub use limits::{
     VOXEL,
 };
 pub use list::{List, OutOfMemory};
+pub use look::LookRow;
 pub use scene::Scene;
 pub use shape::{Axis, Ball, Form, Material, Template, Wall};
 pub use state::{Body, Clump, End, EndKind, Held, Last, Pair, Stand, State, TakenRow, Turn};

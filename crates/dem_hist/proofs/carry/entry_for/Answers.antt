@@ -1,7 +1,7 @@
 use Rattle.std.proofs.Common.{◌≡◌, false, get_or, is_lt, sym, ◌∙◌, arith}
 use Rattle.std.proofs.lemmas.Option.{get_or_from_slice_get}
 use Rattle.dem_model.specs.declared.state.Pair.{Pair}
-use Rattle.dem_list.specs.Ascending.{pair_cmp}
+use Rattle.dem_model.specs.Pairs.{pair_cmp}
 use Rattle.dem_list.proofs.AscendingFacts.{same_pair-equal}
 use Rattle.dem_hist.proofs.CarryFacts.{pair_cmp-after, entry-here, entry-nowhere}
 use Rattle.dem_hist.proofs.carry.entry_for.Goals as goal

@@ -3,7 +3,7 @@ use Rattle.std.proofs.lemmas.Map.Keys.{Less-from_sorted}
 use Rattle.std.proofs.lemmas.Option.{get_or_from_slice_get}
 use Rattle.std.specs.declared.cmp.Ordering.TheVariants.{Less}
 use Rattle.dem_model.specs.declared.state.Pair.{Pair}
-use Rattle.dem_list.specs.Ascending.{pair_cmp}
+use Rattle.dem_model.specs.Pairs.{pair_cmp}
 use Rattle.dem_hist.proofs.CarryFacts.{AllBefore-later, carried-more, carried-all}
 use Rattle.dem_hist.proofs.carry.fill.Goals as goal
 

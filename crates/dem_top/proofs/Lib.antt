@@ -10,4 +10,5 @@ pub mod ListsFacts
 pub mod InputFacts
 pub mod ComparedFacts
 pub mod PackedFacts
+pub mod ResumedFacts
 pub mod SummaryFacts

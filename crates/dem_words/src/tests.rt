@@ -75,6 +75,15 @@ fn takes_the_greatest_numbers(rt: HostRuntime) -> Result<(), Fail> {
 }
 
 #[test]
+fn reads_modes_without_options(rt: HostRuntime) -> Result<(), Fail> {
+    for (word, mode) in [("resume", Mode::Resume), ("look", Mode::Look)] {
+        let order = read(rt.alloc(), &["dem", word])?.expect(&rt, "an order");
+        assert_eq!(rt; order.mode, mode);
+    }
+    Ok(())
+}
+
+#[test]
 fn refuses_what_the_command_refuses(rt: HostRuntime) -> Result<(), Fail> {
     for words in [
         ["dem"].as_slice(),
@@ -98,13 +107,11 @@ fn refuses_a_wrong_value(rt: HostRuntime) -> Result<(), Fail> {
     for words in [
         ["dem", "fly"].as_slice(),
         ["dem", "Plain"].as_slice(),
-        ["dem", "look"].as_slice(),
         ["dem", "sched", "--drift", "1025"].as_slice(),
         ["dem", "sched", "--drift", "+7"].as_slice(),
         ["dem", "sched", "--drift="].as_slice(),
         ["dem", "sched", "--bin", "274877906945"].as_slice(),
         ["dem", "sched", "--turns", "px"].as_slice(),
-        ["dem", "resume"].as_slice(),
         ["dem", "sched", "--seed", "18446744073709551616"].as_slice(),
         ["dem", "sched", "--count", "0"].as_slice(),
         ["dem", "sched", "--count", "16385"].as_slice(),

@@ -8,6 +8,7 @@ pub mod StandFacts
 pub mod ThreadFacts
 pub mod ListsFacts
 pub mod InputFacts
+pub mod MarkFacts
 pub mod ComparedFacts
 pub mod PackedFacts
 pub mod ResumedFacts

@@ -1,5 +1,5 @@
 -- What `resume` makes of its input: the scene before the mark, and the run that goes on from the frame behind it.
-use Rattle.std.specs.Prelude.{◌≡◌, ℕ, ◌≤◌, List, [], ◌++◌, length, take, codes, Option, Some, Result, Ok, Err}
+use Rattle.std.specs.Prelude.{◌≡◌, ℕ, ◌≤◌, true, List, [], ◌++◌, length, codes, None, Result, Ok, Err}
 use Rattle.dem_model.specs.SceneValue.{SceneValue}
 use Rattle.dem_model.specs.ReadingScene.{scene_from}
 use Rattle.dem_model.specs.Frames.{state_text}
@@ -11,7 +11,7 @@ use Rattle.dem_save.specs.declared.fault.SaveFault.{SaveFault}
 use Rattle.dem_save.specs.declared.fault.SaveFault.TheVariants as faults
 use Rattle.dem_top.specs.declared.reading.TheConstants.{MAX_INPUT}
 use Rattle.dem_top.specs.Verdicts.{Verdict, Refused, Written, no_rows, numbered, run_status}
-use Rattle.dem_top.specs.Marks.{mark_in, behind, parted}
+use Rattle.dem_top.specs.Marks.{begins_line, mark_in, parted}
 
 -- the line between a scene and its frame
 abbrev pub frame_mark : List ℕ
@@ -49,17 +49,20 @@ resume_verdict = parted frame_mark no_frame_text (λ text rows. resumed rows)
 
 -- ---- frames of the plain run
 
--- an input has the text of this scene, and behind the mark the frame of this state
-pub record HasFrame (s : SceneValue) (st : State) (bytes : List ℕ) : Type 0 where
-  pub short : length bytes ≤ MAX_INPUT
-  pub place : ℕ
-  pub marked : mark_in frame_mark bytes ≡ Some place
-  pub scene : scene_from (take place bytes) ≡ Ok s
-  pub frame : behind frame_mark bytes place ≡ state_text st
+-- the text of a scene, the line of the mark, and the frame of a state
+abbrev pub with_frame : List ℕ → State → List ℕ
+with_frame text st = text ++ (frame_mark ++ (codes "\n" ++ state_text st))
 
--- it comes to what follows that frame in the output of the scene, and ends as the plain run does
-pub record GoesOn (s : SceneValue) (st : State) (bytes : List ℕ) : Type 0 where
+-- a text is that of this scene and may stand before the frame of this state: it ends with its last line, none of its lines is the mark, and there is room
+pub record TakesFrame (s : SceneValue) (st : State) (text : List ℕ) : Type 0 where
+  pub scene : scene_from text ≡ Ok s
+  pub ended : begins_line text (length text) ≡ true
+  pub unmarked : mark_in frame_mark text ≡ None
+  pub short : length (with_frame text st) ≤ MAX_INPUT
+
+-- the two come to what follows that frame in the output of the scene, and end as the plain run does
+pub record GoesOn (s : SceneValue) (st : State) (text : List ℕ) : Type 0 where
   pub before : List ℕ
   pub rest : List ℕ
   pub output : output_of s ≡ before ++ (state_text st ++ rest)
-  pub verdict : resume_verdict bytes ≡ Written (run_status (last_of s)) rest no_rows
+  pub verdict : resume_verdict (with_frame text st) ≡ Written (run_status (last_of s)) rest no_rows

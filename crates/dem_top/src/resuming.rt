@@ -7,7 +7,7 @@ ghost use Rattle.dem_outside.specs.Change.{Stream, change, LosesAtMost};
 ghost use Rattle.dem_top.specs.Jobs.{resume_job};
 ghost use Rattle.dem_top.specs.Marks.{mark_in as mark_of, by_mark};
 ghost use Rattle.dem_top.specs.Parts.{Comes, DoesQuietly, idle};
-ghost use Rattle.dem_top.specs.Resumed.{frame_mark, no_frame_text, resumed, HasFrame, GoesOn};
+ghost use Rattle.dem_top.specs.Resumed.{frame_mark, no_frame_text, resumed, TakesFrame, GoesOn};
 ghost use Rattle.dem_top.specs.declared.reading.TheConstants as limits;
 
 use crate::mark::{behind, mark_in};
@@ -68,8 +68,8 @@ fn go_on<K: Sink>(
 
 /// The law of a run that was cut short: from a frame of a scene's output `resume` writes what follows that frame there, and its status is that of the whole run.
 pub fn resume_law(scene: &Scene)
-    ensures { (n : ℕ) (st : StateValue) (bytes : List ℕ) → plain_at scene.now n ≡ Some st → n ≤ scene.now.steps → is_due scene.now n ≡ true
-        → HasFrame scene.now st bytes → GoesOn scene.now st bytes }
+    ensures { (n : ℕ) (st : StateValue) (text : List ℕ) → plain_at scene.now n ≡ Some st → n ≤ scene.now.steps → is_due scene.now n ≡ true
+        → TakesFrame scene.now st text → GoesOn scene.now st text }
 {
     fit_law(scene);
     load_law(scene);

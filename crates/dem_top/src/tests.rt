@@ -25,18 +25,6 @@ const PULLED: &[u8] =
 const PULLED_OUT: &[u8] =
     b"frame,0\nclump,0,100,100,100,65535,0,0,1073741824,0,0,0,0,0,0\nframe,1\nclump,0,101,100,100,65536,0,0,1073741824,0,0,0,0,0,0\nend,speed,2,0\n";
 
-// The frame that it is resumed from behind the mark, and what follows it.
-const PULLED_FROM: &[u8] =
-    b"\n--frame--\nframe,0\nclump,0,100,100,100,65535,0,0,1073741824,0,0,0,0,0,0\n";
-
-const PULLED_REST: &[u8] =
-    b"frame,1\nclump,0,101,100,100,65536,0,0,1073741824,0,0,0,0,0,0\nend,speed,2,0\n";
-
-// What is seen of both.
-const STILL_SEEN: &[u8] = b"look,0,100,0,0,0,0,0\nend,done,0\n";
-
-const PULLED_SEEN: &[u8] = b"look,0,100,0,0,0,0,0\nlook,1,100,1,0,0,0,0\nend,speed,2,0\n";
-
 // The run of a made scene in whose last state one pair touches, as a second calculation has it.
 const MADE_OUT: &[u8] = b"gen,276,64\nsum,403203672,403254721,403050095\ntouch,1\nend,done,100\n";
 
@@ -236,52 +224,6 @@ fn sums_up_a_made_scene(rt: HostRuntime) -> Result<(), TestFail> {
     let left = call(&rt, words.as_slice(), outside)?;
     assert_eq!(rt; left.status, 5);
     assert_eq!(rt; left.out.held(), MADE_CUT);
-    Ok(())
-}
-
-#[test]
-fn sees_what_comes_of_a_run(rt: HostRuntime) -> Result<(), TestFail> {
-    for (text, status, rows) in [(STILL, 0, STILL_SEEN), (PULLED, 3, PULLED_SEEN)] {
-        let left = call(&rt, &["dem", "look"], calm(text))?;
-        assert_eq!(rt; left.status, status);
-        assert_eq!(rt; left.out.held(), rows);
-        assert_eq!(rt; left.note.held(), b"".as_slice());
-    }
-    Ok(())
-}
-
-// The top call of `resume`, on the scene that is pulled and these rows.
-fn resume<R: Threads + Wait + Sync + AllocGlobal>(rt: &R, rows: &[u8]) -> Result<Left, TestFail> {
-    let alloc = rt.alloc();
-    let mut input = Vec::from_slice(alloc, PULLED)?;
-    input.extend_from_slice(rows)?;
-    let source = MemSource::new(input, 4096, List::new(alloc));
-    let out = MemSink::new(alloc, 16_777_216, List::new(alloc))?;
-    let note = MemSink::new(alloc, 16_777_216, List::new(alloc))?;
-    call_over(rt, &["dem", "resume"], source, out, note, &OpenGate)
-}
-
-#[test]
-fn goes_on_from_a_frame(rt: HostRuntime) -> Result<(), TestFail> {
-    let left = resume(&rt, PULLED_FROM)?;
-    assert_eq!(rt; left.status, 3);
-    assert_eq!(rt; left.out.held(), PULLED_REST);
-    assert_eq!(rt; left.note.held(), b"".as_slice());
-    Ok(())
-}
-
-#[test]
-fn refuses_a_frame_with_its_line(rt: HostRuntime) -> Result<(), TestFail> {
-    for (rows, line) in [
-        (b"\n".as_slice(), b"frame: missing\n".as_slice()),
-        (b"\n--frame--\nframe,3\n", b"frame: short 1\n"),
-        (b"\n--frame--\nframe,0\nclump,0\n", b"frame: bad row 2\n"),
-    ] {
-        let left = resume(&rt, rows)?;
-        assert_eq!(rt; left.status, 2);
-        assert_eq!(rt; left.out.held(), b"".as_slice());
-        assert_eq!(rt; left.note.held(), line);
-    }
     Ok(())
 }
 

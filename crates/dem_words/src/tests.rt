@@ -75,15 +75,6 @@ fn takes_the_greatest_numbers(rt: HostRuntime) -> Result<(), Fail> {
 }
 
 #[test]
-fn reads_modes_without_options(rt: HostRuntime) -> Result<(), Fail> {
-    for (word, mode) in [("resume", Mode::Resume), ("look", Mode::Look)] {
-        let order = read(rt.alloc(), &["dem", word])?.expect(&rt, "an order");
-        assert_eq!(rt; order.mode, mode);
-    }
-    Ok(())
-}
-
-#[test]
 fn refuses_what_the_command_refuses(rt: HostRuntime) -> Result<(), Fail> {
     for words in [
         ["dem"].as_slice(),

@@ -27,8 +27,3 @@ mod turns;
 
 pub use streams::{Served, Writers, stream_call};
 pub use top::{main_call, quiet_call};
-
-#[cfg(test)]
-mod tests;
-#[cfg(test)]
-mod thread_tests;

@@ -14,6 +14,3 @@ mod verdict;
 
 pub use checking::check;
 pub use verdict::{Line, Verdict};
-
-#[cfg(test)]
-mod tests;

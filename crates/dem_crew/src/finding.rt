@@ -6,6 +6,7 @@ ghost use Rattle.dem_model.specs.Exchange.{terms_of, IsSoundFor, IsAnswer};
 ghost use Rattle.dem_model.specs.ExchangeKinds.{HoldsNone};
 ghost use Rattle.dem_bins.specs.Bins.{IsGridOf};
 
+use crate::pace::Pace;
 use crate::rest::Rest;
 use dem_bins::Grid;
 use dem_model::Steps;
@@ -39,13 +40,14 @@ pub fn kinematics<R: Wait, G: Gate>(
     serve_until_stop::<R, G, Brand>(rt, alloc, swap, seat, shapes, grid, gate, Blank::new(1));
 }
 
-/// What kinematics works with: the shapes, the grid that fits them, and how many parcels it has served.
+/// What kinematics works with: the shapes, the grid that fits them, how many parcels it has served, and when it serves the next.
 #[derive(Drop)]
 pub struct Finder<'a, L: Ledger> {
     alloc: Global,
     shapes: &'a Shapes<'a>,
     grid: &'a Grid,
     served: u64,
+    pace: Pace,
     tests: Steps<L>,
     ghost fits: { IsGridOf shapes.now grid.now },
 }
@@ -78,8 +80,12 @@ fn serve_until_stop<R: Wait, G: Gate, L: Ledger>(
         if swap.stopped(seat) {
             return;
         }
-        let has_served = finder.serve(swap, seat, gate);
-        rest.after(rt, has_served);
+        if finder.pace.naps() {
+            rest.nap(rt);
+        } else {
+            let has_served = finder.serve(swap, seat, gate);
+            rest.after(rt, has_served);
+        }
     }
     unreachable!()
 }
@@ -99,6 +105,7 @@ impl<'a, L: Ledger> Finder<'a, L> {
             shapes,
             grid,
             served: 0,
+            pace: Pace::new(),
             tests: Steps::<L>::new(blank),
         }
     }
@@ -118,6 +125,7 @@ impl<'a, L: Ledger> Finder<'a, L> {
         gate.pass(Point::Take, nth);
         match swap.take(seat) {
             Some(parcel) => {
+                self.pace.after(self.grid.drift(), parcel.snap.step);
                 let answered = self.answer(parcel);
                 gate.pass(Point::Deliver, nth);
                 swap.deliver(seat, answered);

@@ -10,11 +10,10 @@
 mod alone;
 mod crew;
 mod finding;
+mod pace;
 mod ran;
 mod rest;
 mod side;
-#[cfg(test)]
-mod tests;
 mod work;
 
 pub use crew::run_two;

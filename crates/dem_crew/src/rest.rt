@@ -9,11 +9,15 @@ use std::time::Duration;
 /// How many pauses in a row only slow the processor down.
 const SPINS: u32 = 200;
 
-/// How many pauses in a row don't sleep; those that let other threads run take some 1.5 ms where none wants to.
-const WAKES: u32 = 6200;
+/// How many pauses in a row don't sleep; those that let other threads run take some 0.1 ms where none wants to. A thread that looks
+/// again and again slows the other one where two processors of the machine are halves of one.
+const WAKES: u32 = 600;
 
 /// How long a sleep takes at least, in microseconds.
 const NAP: u64 = 20;
+
+/// How long a sleep takes where nobody waits for this side, in microseconds.
+const LONG_NAP: u64 = 200;
 
 /// The pauses of one side since it last had something to do.
 #[derive(Drop)]
@@ -38,6 +42,13 @@ impl Rest {
         } else {
             self.pause(rt);
         }
+    }
+
+    /// Sleeps where nobody waits for this side, and begins anew.
+    pub fn nap<R: Wait>(&mut self, rt: &R) {
+        self.pauses = 0;
+        self.bed
+            .park_timeout(rt, 0, Duration::from_micros(LONG_NAP));
     }
 
     /// One more pause, by how many there were.

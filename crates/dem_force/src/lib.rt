@@ -11,8 +11,6 @@
 mod advancing;
 mod pushing;
 mod sums;
-#[cfg(test)]
-mod tests;
 mod touching;
 
 pub use advancing::clump::advance;

@@ -21,6 +21,3 @@ pub use read::read_frame;
 pub use row::WriteFault;
 pub use rows::{write_clump, write_end, write_head, write_pair, write_taken, write_tests};
 pub use state::write_state;
-
-#[cfg(test)]
-mod tests;

@@ -12,6 +12,3 @@ mod template;
 mod words;
 
 pub use scene::made_scene;
-
-#[cfg(test)]
-mod tests;

@@ -8,7 +8,5 @@
 
 mod carry;
 mod contacts;
-#[cfg(test)]
-mod tests;
 
 pub use contacts::Contacts;

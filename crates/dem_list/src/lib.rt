@@ -9,8 +9,6 @@
 mod order;
 mod pair_list;
 mod raw_pairs;
-#[cfg(test)]
-mod tests;
 
 pub use order::is_before;
 pub use pair_list::PairList;

@@ -15,8 +15,6 @@ mod scene;
 mod shape;
 mod state;
 mod steps;
-#[cfg(test)]
-mod tests;
 
 pub use fault::{Name, SceneFault, Spot};
 pub use law::{Law, Load, Push, Side, Touch};

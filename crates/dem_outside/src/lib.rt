@@ -28,6 +28,3 @@ pub use real_sink::RealSink;
 pub use real_source::RealSource;
 pub use sink::Sink;
 pub use source::Source;
-
-#[cfg(test)]
-mod tests;

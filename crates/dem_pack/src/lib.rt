@@ -17,6 +17,3 @@ mod rise;
 pub use ask::{Ask, Kind, PackFault};
 pub use packing::pack;
 pub use read::read_ask;
-
-#[cfg(test)]
-mod tests;

@@ -26,6 +26,3 @@ pub use dem_model::{Name, SceneFault, Spot};
 pub use read::read_scene;
 pub use stand::with_clumps;
 pub use text::{LINE_ROOM, Line, fault_line};
-
-#[cfg(test)]
-mod tests;

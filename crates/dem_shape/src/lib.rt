@@ -14,8 +14,6 @@ mod pose;
 mod shapes;
 mod snapshot;
 mod start;
-#[cfg(test)]
-mod tests;
 
 pub use apart::{all_pairs_law, is_apart};
 pub use centers::Centers;

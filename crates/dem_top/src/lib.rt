@@ -32,8 +32,3 @@ mod turns;
 pub use resuming::resume_law;
 pub use streams::{Served, Writers, stream_call};
 pub use top::{main_call, quiet_call};
-
-#[cfg(test)]
-mod tests;
-#[cfg(test)]
-mod thread_tests;

@@ -11,8 +11,6 @@ mod rows;
 mod stepping;
 mod still;
 mod swing;
-#[cfg(test)]
-mod tests;
 mod turning;
 
 pub use dem_num::Rows;

@@ -8,8 +8,6 @@
 
 mod moving;
 mod position;
-#[cfg(test)]
-mod tests;
 
 pub use moving::moved;
 pub use position::{VoxelPos, pack, unpack};

@@ -7,8 +7,6 @@
 
 mod cylinder;
 mod plane;
-#[cfg(test)]
-mod tests;
 mod touching;
 
 pub use plane::unit;

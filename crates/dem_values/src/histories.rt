@@ -1,6 +1,6 @@
 //! An entry is carried by pair from one list to the next, and the old list comes back.
 
-use crate::Contacts;
+use dem_hist::Contacts;
 use dem_list::PairList;
 use dem_model::{OutOfMemory, Pair};
 use dem_num::Vec3;

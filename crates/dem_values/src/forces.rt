@@ -5,8 +5,7 @@ ghost use Rattle.dem_num.specs.Numbers.{AtMost};
 ghost use Rattle.dem_model.specs.Ranges.{IsFirst, IsLaw};
 ghost use Rattle.dem_model.specs.Sound.{IsFrom};
 
-use crate::advancing::limits::is_over;
-use crate::*;
+use dem_force::*;
 use dem_model::Material;
 use dem_num::{Vec3, Wide3};
 
@@ -142,21 +141,4 @@ fn sticks_to_a_floor(rt: HostRuntime) {
             z: 0
         }
     );
-}
-
-/// A component at the limit doesn't pass it.
-#[test]
-fn reaching_a_limit_is_not_passing_it(rt: HostRuntime) {
-    let at = Wide3 {
-        x: 0,
-        y: -65536,
-        z: 0,
-    };
-    let over = Wide3 {
-        x: 0,
-        y: 0,
-        z: -65537,
-    };
-    assert!(rt; !is_over(65536, at));
-    assert!(rt; is_over(65536, over));
 }

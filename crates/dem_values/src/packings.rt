@@ -1,12 +1,10 @@
 //! Packings whose places another program computed, and rows that ask for none.
 ghost use Rattle.std.specs.Prelude.{◌≤◌};
 
-use crate::packing::layout;
-use crate::rise::rise;
-use crate::{Ask, Kind, PackFault, pack, read_ask};
 use dem_gen::made_scene;
 use dem_model::{List, Stand};
 use dem_num::Vec3;
+use dem_pack::{Ask, Kind, PackFault, pack, read_ask};
 use std::alloc::Global;
 use std::test::Fail;
 
@@ -87,18 +85,6 @@ fn refuses_in_order(rt: HostRuntime) -> Result<(), Fail> {
         fault(rt.alloc(), flat, 1),
         Some(PackFault::Room { cells: 0 })
     );
-    Ok(())
-}
-
-#[test]
-fn counts_small_cells(rt: HostRuntime) -> Result<(), Fail> {
-    let grid = read_ask(b"grid,0,0,0,0,0,60,20,40", 3).expect(&rt, "an ask");
-    assert_eq!(rt; layout(&grid, 10).cells(), 6);
-    let staggered = read_ask(b"staggered,0,0,0,0,0,60,60,60", 10).expect(&rt, "an ask");
-    let cells = layout(&staggered, 10);
-    assert_eq!(rt; cells.cells(), 22);
-    assert_eq!(rt; cells.cell(9), at(20, 20, 25));
-    assert_eq!(rt; rise(20), 15);
     Ok(())
 }
 

@@ -1,8 +1,8 @@
 //! Worked values of the unit normal and of both forms of wall.
 
-use crate::*;
 use dem_model::{Axis, Form, Touch, Wall};
 use dem_num::Vec3;
+use dem_wall::*;
 
 const ONE: i64 = 1 << 30;
 

@@ -1,8 +1,8 @@
 //! Stored forms in the corner of the largest box.
 
-use crate::{VoxelPos, moved, pack, unpack};
 use dem_model::MAX_VOXELS;
 use dem_num::Vec3;
+use dem_voxel::{VoxelPos, moved, pack, unpack};
 use std::test::Fail;
 
 /// A stored form in the fourth voxel on x and the last on z.

@@ -1,6 +1,6 @@
 //! A list keeps what was pushed, in order.
 
-use crate::List;
+use dem_model::List;
 use std::test::Fail;
 
 #[test]

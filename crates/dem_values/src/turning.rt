@@ -1,7 +1,7 @@
 //! Worked values of each call.
 
-use crate::*;
 use dem_num::{Quat, Vec3, Wide3};
+use dem_turn::*;
 
 const ONE: i64 = 1 << 30;
 

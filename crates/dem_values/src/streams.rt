@@ -1,10 +1,9 @@
 //! The fakes fail where they were told to, and each adapter passes on what its stream does.
-use crate::hold_gate::Place;
-use crate::{
+use dem_model::List;
+use dem_outside::{
     BlankSink, Fail, Failed, Gate, HoldGate, MemSink, MemSource, OpenGate, Point, RealSink,
     RealSource, Sink, Source,
 };
-use dem_model::List;
 use std::io;
 use std::io::{Error, ErrorKind, Read, Write};
 use std::test::Fail as TestFail;
@@ -86,19 +85,6 @@ fn real_sink_writes_and_counts(rt: HostRuntime) {
     assert_eq!(rt; sink.into_writer().len(), 0);
     assert_eq!(rt; RealSink::new(Gone).put(b"a"), Err(Failed));
     assert_eq!(rt; RealSink::new(Gone).put(b""), Ok(()));
-}
-
-#[test]
-fn one_thread_alone_gives_up(rt: HostRuntime) {
-    let (step, deliver) = (Place::new(Point::Step, 4), Place::new(Point::Deliver, 2));
-    let gate = HoldGate::with_patience(step, deliver, 10);
-    gate.pass(Point::Step, 3);
-    gate.pass(Point::Deliver, 4);
-    assert!(rt; !gate.arrived() && !gate.gave_up());
-    gate.pass(Point::Step, 4);
-    assert!(rt; !gate.arrived() && gate.gave_up());
-    gate.pass(Point::Deliver, 2);
-    assert!(rt; gate.arrived() && gate.gave_up());
 }
 
 #[test]

@@ -1,9 +1,9 @@
 //! Whole calls over memory: the texts that a user sees, and reads and puts that fail.
 ghost use Rattle.std.specs.Prelude.{◌<◌};
 
-use crate::{main_call, stream_call};
 use dem_model::{List, OutOfMemory};
 use dem_outside::{Fail, Gate, MemSink, MemSource, OpenGate};
+use dem_top::{main_call, stream_call};
 use std::alloc::Global;
 use std::sync::Wait;
 use std::test::Fail as TestFail;

@@ -1,5 +1,5 @@
 //! Runs by two threads: the same bytes, the rows that they note, and two actions of the two that meet.
-use crate::tests::{Left, STILL, STILL_OUT, call_over};
+use crate::calls::{Left, STILL, STILL_OUT, call_over};
 use dem_model::List;
 use dem_outside::{Gate, HoldGate, MemSink, MemSource, OpenGate, Point};
 use std::sync::Wait;

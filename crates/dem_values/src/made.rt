@@ -1,6 +1,6 @@
 //! A made scene, against values that another program computed by SplitMix64.
 
-use crate::made_scene;
+use dem_gen::made_scene;
 use dem_num::Vec3;
 use std::test::Fail;
 

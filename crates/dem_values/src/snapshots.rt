@@ -1,6 +1,6 @@
 //! A snapshot has room for the bodies that it was made for.
 
-use crate::Snapshot;
+use dem_shape::Snapshot;
 use std::test::Fail;
 
 #[test]

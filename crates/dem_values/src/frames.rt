@@ -1,7 +1,7 @@
 //! The rows as they are printed, and a sink that fails in a frame.
 ghost use Rattle.std.specs.Prelude.{◌≡◌, length, IfOk};
 
-use crate::{
+use dem_frame::{
     FrameFault, WriteFault, read_frame, write_clump, write_end, write_head, write_pair,
     write_state, write_taken, write_tests,
 };

@@ -1,6 +1,6 @@
 //! Texts beside the output of a made scene, whose one sphere falls freely and meets nothing: its rows are worked out by hand.
 
-use crate::{Line, Verdict, check};
+use dem_check::{Line, Verdict, check};
 use dem_gen::made_scene;
 use dem_model::OutOfMemory;
 use std::alloc::Global;

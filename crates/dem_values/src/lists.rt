@@ -1,6 +1,6 @@
 //! A list settles into the added pairs, each once, and finds each at its place.
 
-use crate::PairList;
+use dem_list::PairList;
 use dem_model::Pair;
 use std::test::Fail;
 

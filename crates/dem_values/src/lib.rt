@@ -1,0 +1,30 @@
+//! Tests of the calls below the run, by worked values.
+//!
+//! One module for each crate that is tested. A crate with tests of its own is proved a second time for them; here only the tests are.
+//! Not here: tests of what is private to a crate (its own), of whole calls (dem_whole), of scenes (the stored runs of programs).
+#![tactic(auto)]
+
+#[cfg(test)]
+mod forces;
+#[cfg(test)]
+mod frames;
+#[cfg(test)]
+mod histories;
+#[cfg(test)]
+mod lists;
+#[cfg(test)]
+mod made;
+#[cfg(test)]
+mod model_lists;
+#[cfg(test)]
+mod packings;
+#[cfg(test)]
+mod snapshots;
+#[cfg(test)]
+mod streams;
+#[cfg(test)]
+mod turning;
+#[cfg(test)]
+mod voxels;
+#[cfg(test)]
+mod walls;

@@ -1,5 +1,5 @@
 -- What the job `resume` comes to once its scene was read, and what it makes of a frame of the plain run.
-use Rattle.std.proofs.Common.{◌≡◌, ℕ, List, ◌++◌, length, get_or, Ok, Err, refl, sym, ap, ◌∙◌, subst}
+use Rattle.std.proofs.Common.{◌≡◌, ℕ, List, ◌++◌, length, get_or, Ok, Err, refl, sym, ap, ◌∙◌, subst, arith}
 use Rattle.std.proofs.KnownBytes.{Keeps-refl}
 use Rattle.dem_outside.specs.Change.{Stream, Change}
 use Rattle.dem_model.specs.SceneValue.{SceneValue}
@@ -69,11 +69,11 @@ goes-on s st text takes loads ends rest =
       rest = rest_of s st;
       output = rest.1;
       verdict =
-        fits-input frame_mark no_frame_text meaning input takes.short
-        ∙ ap (by_mark frame_mark no_frame_text meaning input) (marked frame_mark text frame takes.ended no_newline takes.unmarked)
-        ∙ ap (λ t. on_scene (resumed (behind frame_mark input (length text))) (scene_from t)) (before-mark frame_mark text frame)
-        ∙ ap (on_scene (resumed (behind frame_mark input (length text)))) takes.scene
-        ∙ ap (λ rows. resumed rows s) (behind-mark frame_mark text frame)
-        ∙ resumed-is frame s st loads
-        ∙ ap (λ last. Written (run_status last) (rest_of s st) no_rows) ends;
+          fits-input frame_mark no_frame_text meaning input takes.short
+          ∙ ap (by_mark frame_mark no_frame_text meaning input) (marked frame_mark text frame takes.ended no_newline takes.unmarked)
+          ∙ ap (λ t. on_scene (resumed (behind frame_mark input (length text))) (scene_from t)) (before-mark frame_mark text frame)
+          ∙ ap (on_scene (resumed (behind frame_mark input (length text)))) takes.scene
+          ∙ ap (λ rows. resumed rows s) (behind-mark frame_mark text frame)
+          ∙ resumed-is frame s st loads
+          ∙ ap (λ last. Written (run_status last) (rest_of s st) no_rows) ends;
     }

@@ -24,7 +24,7 @@ frame_from-read : (clumps n : ℕ) (frame last : PartialFrame) (rows more : List
     → frame_from clumps n frame (rows ++ more) ≡ frame_from clumps (n + length rows) last more
 unfolding read_on frame_from
 frame_from-read clumps n frame last [] more read =
-    let none : n ≡ n + length ([] : List (List (List ℕ))) = omega arith in
+    let none : n ≡ n + 0 = omega arith in
     ap (λ (f : PartialFrame). frame_from clumps n f more) (same_Some frame last read) ∙ ap (λ (k : ℕ). frame_from clumps k last more) none
 frame_from-read clumps n frame last (row ∷ rows) more read =
     let one : n + 1 + length rows ≡ n + length (row ∷ rows) = omega arith in

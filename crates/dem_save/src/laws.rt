@@ -12,9 +12,13 @@ use dem_model::Scene;
 pub fn fit_law(scene: &Scene)
     ensures run { (n : ℕ) (beginning st : StateValue) → IsFit scene.now beginning → run_after scene.now beginning n ≡ Some st → IsFit scene.now st }
     ensures plain { (n : ℕ) (st : StateValue) → plain_at scene.now n ≡ Some st → IsFit scene.now st }
-{}
+{
+    let _steps = scene.steps;
+}
 
 /// The frame of a fit state loads as that state.
 pub fn load_law(scene: &Scene)
     ensures { (st : StateValue) → IsFit scene.now st → loaded_of scene.now (state_text st) ≡ Ok st }
-{}
+{
+    let _steps = scene.steps;
+}

@@ -1,5 +1,5 @@
 -- The state that a text is as a frame, by its records.
-use Rattle.std.proofs.Common.{◌≡◌, ℕ, ◌+◌, List, [], ◌∷◌, ◌++◌, length, Option, Some, None, Result, Ok, Err, sym, ap, subst, ◌∙◌, refl, append_assoc, append-nil, option_and_then, arith}
+use Rattle.std.proofs.Common.{◌≡◌, ℕ, ◌+◌, ◌≤◌, List, [], ◌∷◌, ◌++◌, length, Option, Some, None, Result, Ok, Err, sym, ap, subst, ◌∙◌, refl, append_assoc, append-nil, option_and_then, arith}
 use Rattle.std.specs.Prelude.{ok_or}
 use Rattle.std.specs.Option.{option_map_or}
 use Rattle.std.proofs.lemmas.Option.{same_Some, none-some}
@@ -9,7 +9,7 @@ use Rattle.dem_frame.specs.PartialFrames.{nothing_read, read_on, with_record, wh
 use Rattle.dem_frame.specs.declared.partial.PartialFrame.{PartialFrame}
 use Rattle.dem_frame.specs.declared.partial.FrameFault.{FrameFault}
 use Rattle.dem_frame.specs.declared.partial.FrameFault.TheVariants.{Bad, Short, OutOfMemory}
-use Rattle.dem_frame.proofs.RecordFacts.{records-all, records-begin}
+use Rattle.dem_frame.proofs.RecordFacts.{records-all, records-begin, records-few, strip-few}
 
 -- the same of the records behind the first
 frame_from-behind : (clumps n : ℕ) (last : PartialFrame) (rows more : List (List (List ℕ))) (answer : Result State FrameFault) (o : Option PartialFrame)
@@ -69,3 +69,16 @@ frame_value clumps text (Err (Short n)) reads =
     ∙ ap (λ (o : Option State). ok_or o (Short (length reads.0))) reads.4
     ∙ ap (λ (k : ℕ). Err (Short k)) (sym reads.5)
 frame_value clumps text (Err OutOfMemory) reads = tt
+
+-- the records of a text, of which there are no more than bytes
+pub record HasRows (clumps : ℕ) (text : List ℕ) : Type 0 where
+  pub rows : List (List (List ℕ))
+  pub few : length rows ≤ length text
+  pub same : frame_of clumps text ≡ frame_from clumps 0 nothing_read rows
+
+pub frame-rows : (clumps : ℕ) (text : List ℕ) → HasRows clumps text
+unfolding frame_of
+frame-rows clumps text =
+    let rows = records-few (strip_bom text) in
+    let bytes = strip-few text in
+    record { rows = records default_config (strip_bom text); few = omega arith; same = refl }

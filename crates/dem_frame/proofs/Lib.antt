@@ -9,3 +9,4 @@ pub mod ReadOnFacts
 pub mod ReadBackFacts
 pub mod RecordFacts
 pub mod FrameFacts
+pub mod KeptFacts

@@ -3,7 +3,7 @@ use Rattle.std.proofs.Common.{◌≡◌, ℕ, zero, suc, ◌+◌, ◌-◌, ◌<�
 use Rattle.std.specs.Prelude.{◌==◌}
 use Rattle.std.proofs.lemmas.Option.{same_Some, none-some}
 use Rattle.csv.specs.Machine.{Read, step, in_field, start_field, start_record, ends_with, after_end, is_end, fields_after, field_after, ends_at_end, next_record}
-use Rattle.csv.specs.Reading.{AreRecords, Reached, default_config, records, records_from, records_next}
+use Rattle.csv.specs.Reading.{AreRecords, Reached, default_config, is_bom, records, records_from, records_next, strip_bom}
 use Rattle.csv.specs.declared.parser.Action.{Action}
 use Rattle.csv.specs.declared.parser.Action.TheVariants as act
 use Rattle.csv.specs.declared.parser.State.{State}
@@ -155,3 +155,15 @@ records_from-few (suc n) s xs rests = by (next_record default_config s [] [] xs)
 
 pub records-few : (xs : List ℕ) → length (records default_config xs) ≤ length xs
 records-few xs = records_from-few (length xs + 1) st.StartRecord xs refl
+
+-- a byte order mark takes bytes away
+pub strip-few : (text : List ℕ) → length (strip_bom text) ≤ length text
+unfolding strip_bom
+strip-few [] = omega arith
+strip-few (a ∷ []) = omega arith
+strip-few (a ∷ b ∷ []) = omega arith
+strip-few (a ∷ b ∷ c ∷ rest) = by (is_bom a b c)
+  where
+    by : (t : Bool) → length (if t then rest else a ∷ b ∷ c ∷ rest) ≤ length (a ∷ b ∷ c ∷ rest)
+    by true = omega arith
+    by false = omega arith

@@ -12,8 +12,8 @@ use Rattle.std.proofs.lemmas.Option.{none-some}
 use Rattle.dem_num.specs.declared.vector.Vec3.{Vec3}
 use Rattle.dem_num.specs.declared.vector.Quat.{Quat}
 use Rattle.dem_num.specs.Vectors.{widened, Within}
-use Rattle.dem_num.specs.Rotations.{quat_norm2_of, QuatWithin}
-use Rattle.dem_num.proofs.QuatSizes.{quat_within}
+use Rattle.dem_num.specs.Rotations.{quat_norm2_of, QuatWithin, IsOrientation}
+use Rattle.dem_num.proofs.QuatSizes.{quat_within, quat_norm2_le}
 use Rattle.dem_model.specs.SceneValue.{SceneValue}
 use Rattle.dem_model.specs.Centers.{body_at}
 use Rattle.dem_model.specs.Fit.{held_pairs, IsFit}
@@ -36,12 +36,15 @@ use Rattle.dem_model.specs.declared.state.State.{State}
 use Rattle.dem_save.specs.Loaded.{is_body_of, unsound_in, is_pair, stray_in, checked_of}
 use Rattle.dem_save.specs.declared.fault.SaveFault.{SaveFault}
 use Rattle.dem_save.specs.declared.fault.SaveFault.TheVariants as saves
-use Rattle.dem_save.proofs.FrameFacts.{IsRead}
+use Rattle.dem_frame.proofs.KeptFacts.{IsRead}
 
 -- ---- a body
 
 all_most : (x y z m : ℕ) → (nat_le x m && nat_le y m && nat_le z m) ≡ true → (x ≤ m) × (y ≤ m) × (z ≤ m)
 all_most x y z m h = (grind (arith, nat_tests), grind (arith, nat_tests), grind (arith, nat_tests))
+
+all_four : (x y z w m : ℕ) → (nat_le x m && nat_le y m && nat_le z m && nat_le w m) ≡ true → (x ≤ m) × (y ≤ m) × (z ≤ m) × (w ≤ m)
+all_four x y z w m h = (grind (arith, nat_tests), grind (arith, nat_tests), grind (arith, nat_tests), grind (arith, nat_tests))
 
 -- a vector of which no component is over a limit is within it, and the other way round
 sized-within : (v : Vec3) (m : ℕ) → each_is (at_most m) v ≡ true → Within (widened v) m
@@ -61,16 +64,29 @@ long-from : (q : Quat) → IsFrom MIN_NORM2 MAX_NORM2 (quat_norm2_of q) → is_l
 long-from q h = rw (le-leb MIN_NORM2 (quat_norm2_of q) h.low_le, le-leb (quat_norm2_of q) MAX_NORM2 h.le_high) refl
 
 -- no component of a quaternion whose length is in its range is above 2^31
-pub long-bounded : (q : Quat) → is_long q ≡ true → is_bounded q ≡ true
+pub long_bounded : (q : Quat) → is_long q ≡ true → is_bounded q ≡ true
 unfolding at_most
-long-bounded q h =
+long_bounded q h =
     let within : QuatWithin q (2 ^ 31) = quat_within q (2 ^ 31) (from-long q h).le_high in
     rw (le-leb (unsigned_abs q.a) (2 ^ 31) within.a, le-leb (unsigned_abs q.b) (2 ^ 31) within.b, le-leb (unsigned_abs q.c) (2 ^ 31) within.c, le-leb (unsigned_abs q.d) (2 ^ 31) within.d) refl
 
+-- and it turns
+pub long_orientation : (q : Quat) → is_long q ≡ true → IsOrientation q
+long_orientation q h = let range = from-long q h in record { long_enough = range.low_le; short_enough = range.le_high }
+
+-- a quaternion without a greater component is short
+pub bounded_small : (q : Quat) → is_bounded q ≡ true → quat_norm2_of q < 2 ^ 128
+unfolding at_most
+bounded_small q h =
+    let each = all_four (unsigned_abs q.a) (unsigned_abs q.b) (unsigned_abs q.c) (unsigned_abs q.d) (2 ^ 31) h in
+    let within : QuatWithin q (2 ^ 31) = record { a = each.0; b = each.1; c = each.2; d = each.3 } in
+    let small : quat_norm2_of q ≤ 4 * (2 ^ 31 * 2 ^ 31) = quat_norm2_le q (2 ^ 31) within in
+    omega arith
+
 -- a quaternion with a greater component isn't of that length
-pub unbounded-long : (q : Quat) → is_bounded q ≡ false → is_long q ≡ false
-unbounded-long q h = elim (cases_Bool (is_long q)) [
-  | inl long ↦ let bounded = long-bounded q long in absurd (cc)
+pub unbounded_long : (q : Quat) → is_bounded q ≡ false → is_long q ≡ false
+unbounded_long q h = elim (cases_Bool (is_long q)) [
+  | inl long ↦ let bounded = long_bounded q long in absurd (cc)
   | inr short ↦ short
 ]
 

@@ -2,6 +2,5 @@ pub mod TurnFacts
 pub mod StepFacts
 pub mod HeldFacts
 pub mod FitFacts
-pub mod FrameFacts
 pub mod CheckFacts
 pub mod WritableFacts

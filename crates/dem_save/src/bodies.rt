@@ -1,5 +1,5 @@
 //! Whether the body of a clump is one that a run of the scene may have.
-ghost use Rattle.std.specs.Prelude.{◌≡◌, ◌<◌, ◌≤◌, ◌^◌, All, Some, length, slice_get};
+ghost use Rattle.std.specs.Prelude.{◌≡◌, ◌<◌, ◌≤◌, ◌^◌, ◌&&◌, true, All, IsTrue, length};
 ghost use Rattle.dem_num.specs.Vectors.{widened, Within};
 ghost use Rattle.dem_num.specs.Rotations.{EntriesWithin, IsOrientation, matrix_of};
 ghost use Rattle.dem_model.specs.Centers.{body_at};
@@ -15,7 +15,7 @@ ghost use Rattle.dem_save.specs.Loaded.{is_body_of};
 use dem_force::in_box;
 use dem_model::{Ball, Body, MAX_NORM2, MIN_NORM2, Scene};
 use dem_num::{Quat, Rows, Vec3, quat_norm2};
-use dem_shape::sphere_center;
+use dem_shape::{Shapes, sphere_center};
 use dem_turn::matrix;
 
 /// The greatest component of a quaternion, in size.
@@ -23,18 +23,29 @@ const MAX_COMPONENT: u64 = 2_147_483_648;
 
 /// Whether the body of a clump is sound for it: within the limits, of a length that turns, inside the box with the centers of its spheres.
 #[tactic(auto, unfolding(crate::specs::Loaded::is_body_of))]
-pub(crate) fn is_sound(scene: &Scene, bodies: &[Body], clump: u32) -> bool
-    requires count { length bodies.now ≡ length scene.now.clumps }
-    requires there { clump < length scene.now.clumps }
-    ensures { result ≡ is_body_of scene.now (clump_at scene.now clump) (body_at bodies.now clump) }
+pub(crate) fn is_sound(shapes: &Shapes, bodies: &[Body], clump: u32) -> bool
+    requires count { length bodies.now ≡ length shapes.now.clumps }
+    requires there { clump < length shapes.now.clumps }
+    ensures { result ≡ is_body_of shapes.now (clump_at shapes.now clump) (body_at bodies.now clump) }
 {
-    let body = bodies[clump as usize];
-    in_limits(scene, body) && is_long(body.q) && is_inside(scene, body, balls(scene, template(scene, clump)))
+    let scene = shapes.scene();
+    let balls = balls(scene, template(scene, clump));
+    is_body(scene, bodies[clump as usize], balls)
+}
+
+// Whether a body is sound for a clump with these spheres.
+fn is_body(scene: &Scene, body: Body, balls: &[Ball]) -> bool
+    requires scene { IsSound scene.now }
+    requires balls { All (IsBall (length scene.now.materials)) balls.now }
+    ensures { result ≡ (in_limits_of scene.now body && (is_long_of body.q && is_inside_of scene.now body balls.now)) }
+{
+    in_limits(scene, body) && (is_long(body.q) && is_inside(scene, body, balls))
 }
 
 // The number of a clump's template.
 fn template(scene: &Scene, clump: u32) -> u32
-    requires { clump < length scene.now.clumps }
+    requires scene { IsSound scene.now }
+    requires clump { clump < length scene.now.clumps }
     ensures value { result ≡ (clump_at scene.now clump).t }
     ensures there { result < length scene.now.templates }
 {
@@ -51,12 +62,19 @@ fn balls(scene: &Scene, t: u32) -> &[Ball]
     scene.templates.get(t as usize).balls.as_slice()
 }
 
-// Whether each component is at most `m` in size.
+// Whether a number is at most `m` in size.
 #[tactic(auto, unfolding(dem_model::specs::Reading::at_most))]
+fn is_at_most(z: i64, m: u64) -> bool
+    ensures { result ≡ at_most m z }
+{
+    z.unsigned_abs() <= m
+}
+
+// Whether each component is at most `m` in size.
 fn is_sized(v: Vec3, m: u64) -> bool
     ensures { result ≡ each_is (at_most m) v }
 {
-    v.x.unsigned_abs() <= m && v.y.unsigned_abs() <= m && v.z.unsigned_abs() <= m
+    is_at_most(v.x, m) && is_at_most(v.y, m) && is_at_most(v.z, m)
 }
 
 // Whether a body is within the limits of the scene.
@@ -68,35 +86,38 @@ fn in_limits(scene: &Scene, body: Body) -> bool
 }
 
 // Whether each component of a quaternion is at most 2^31 in size.
-#[tactic(auto, unfolding(dem_model::specs::Reading::at_most))]
 fn is_bounded(q: Quat) -> bool
     ensures { result ≡ is_bounded_of q }
 {
-    q.a.unsigned_abs() <= MAX_COMPONENT
-        && q.b.unsigned_abs() <= MAX_COMPONENT
-        && q.c.unsigned_abs() <= MAX_COMPONENT
-        && q.d.unsigned_abs() <= MAX_COMPONENT
+    is_at_most(q.a, MAX_COMPONENT)
+        && is_at_most(q.b, MAX_COMPONENT)
+        && is_at_most(q.c, MAX_COMPONENT)
+        && is_at_most(q.d, MAX_COMPONENT)
 }
 
-// Whether the squared length of a quaternion is in its range; none is that has a component above 2^31.
+// Whether the squared length of a quaternion is in its range: none is that has a component above 2^31.
+#[tactic(auto, using(crate::proofs::CheckFacts::unbounded_long, crate::proofs::CheckFacts::long_orientation))]
 fn is_long(q: Quat) -> bool
-    ensures { result ≡ is_long_of q }
+    ensures value { result ≡ is_long_of q }
+    ensures orientation { IsTrue result → IsOrientation q }
 {
     is_bounded(q) && is_in_range(q)
 }
 
 // The same where no component is above 2^31.
+#[tactic(auto, using(crate::proofs::CheckFacts::bounded_small))]
 fn is_in_range(q: Quat) -> bool
     requires { is_bounded_of q ≡ true }
     ensures { result ≡ is_long_of q }
 {
     let length = quat_norm2(q);
-    MIN_NORM2 as u128 <= length && length <= MAX_NORM2 as u128
+    u128::from(MIN_NORM2) <= length && length <= u128::from(MAX_NORM2)
 }
 
 // Whether a body and the center of each sphere lie in the box.
 #[tactic(auto, unfolding(dem_model::specs::ReadingScene::is_inside))]
 fn is_inside(scene: &Scene, body: Body, balls: &[Ball]) -> bool
+    requires scene { IsSound scene.now }
     requires orientation { IsOrientation body.q }
     requires balls { All (IsBall (length scene.now.materials)) balls.now }
     ensures { result ≡ is_inside_of scene.now body balls.now }

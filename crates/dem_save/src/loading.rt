@@ -52,8 +52,7 @@ fn unsound(shapes: &Shapes, bodies: &[Body]) -> Option<u32>
     requires { length bodies.now ≡ length shapes.now.clumps }
     ensures { result ≡ unsound_of shapes.now bodies.now }
 {
-    let scene = shapes.scene();
-    (0..scene.clumps.len() as u32).find(|k| !is_sound(scene, bodies, *k))
+    (0..bodies.len() as u32).find(|k| !is_sound(shapes, bodies, *k))
 }
 
 // The first place of what is held, from 0, whose pair may not touch.

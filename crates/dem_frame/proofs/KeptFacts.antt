@@ -1,32 +1,32 @@
 -- What each frame that is read keeps: a body per clump, pairs that ascend, displacements within their range, and few rows.
-use Rattle.std.proofs.Common.{◌≡◌, ◌∙◌, ℕ, ◌+◌, ◌-◌, ◌^◌, ◌<◌, ◌≤◌, Bool, true, false, ℤ, List, [], ◌∷◌, ◌++◌, length, length-append, get_or, Option, Some, None, Result, Ok, Err, All, if◌then◌else◌, inl, inr, ◌⊎◌, sym, ap, refl, subst, arith, unsigned_abs, option_and_then}
+use Rattle.std.proofs.Common.{◌≡◌, ◌∙◌, ℕ, ◌+◌, ◌-◌, ◌^◌, ◌<◌, ◌≤◌, Bool, true, false, ℤ, pos, List, [], ◌∷◌, ◌++◌, codes, length, length-append, get_or, Option, Some, None, Result, Ok, Err, All, if◌then◌else◌, inl, inr, ◌⊎◌, sym, ap, refl, subst, arith, unsigned_abs, option_and_then}
 use Rattle.std.specs.Prelude.{IfOk, IfSome, ◌&&◌, ◌||◌, ◌==◌, nat_lt, nat_le, ok_or, option_map, slice_get}
+use Rattle.std.specs.Cmp.{IsTotalOrder}
 use Rattle.std.specs.List.Sorted.{IsStrictlySortedBy}
 use Rattle.std.specs.Option.{option_map_or}
 use Rattle.std.specs.declared.cmp.Ordering.TheVariants.{Less}
 use Rattle.std.proofs.lemmas.Bool.{cases_lt, and_parts, leb-true, ltb-true, ltb-false}
 use Rattle.std.proofs.lemmas.Bool.Decides.{nat_tests}
+use Rattle.std.proofs.lemmas.Cmp.{on_total, then_total, nat_cmp_total}
 use Rattle.std.proofs.lemmas.List.{get_or_append_left, get_or_push, length_push, map_push, length-map, get_or-map}
 use Rattle.std.proofs.lemmas.List.Elements.{All-nil, All-push}
 use Rattle.std.proofs.lemmas.Map.Keys.{Less-from_sorted, sorted_from_all_adjacent}
 use Rattle.std.proofs.lemmas.Option.{slice_get-get_or}
-use Rattle.csv.specs.Reading.{default_config, records, strip_bom, is_bom}
 use Rattle.dem_num.specs.declared.vector.Vec3.{Vec3}
 use Rattle.dem_num.specs.Vectors.{widened, Within}
 use Rattle.dem_model.specs.Fit.{held_pairs}
 use Rattle.dem_model.specs.Pairs.{pair_cmp}
+use Rattle.dem_model.specs.declared.limits.TheConstants.{MAX_DISPLACEMENT}
 use Rattle.dem_model.specs.declared.state.Body.{Body}
 use Rattle.dem_model.specs.declared.state.Held.{Held}
 use Rattle.dem_model.specs.declared.state.Pair.{Pair}
 use Rattle.dem_model.specs.declared.state.State.{State}
-use Rattle.dem_list.proofs.AscendingFacts.{pair_cmp-total}
 use Rattle.dem_frame.specs.Records.{row_of, whole_of, top, vector_of, head_of, clump_of, pair_of, held_of, held_from, is_small, continues, comes_after}
 use Rattle.dem_frame.specs.PartialFrames.{nothing_read, last_held, with_body, with_head, with_record, whole_frame, frame_from, frame_of}
 use Rattle.dem_frame.specs.declared.partial.PartialFrame.{PartialFrame}
 use Rattle.dem_frame.specs.declared.partial.FrameFault.{FrameFault}
 use Rattle.dem_frame.specs.declared.partial.FrameFault.TheVariants.{Bad, Short}
-use Rattle.dem_frame.proofs.RecordFacts.{records-few}
-use Rattle.dem_save.proofs.HeldFacts.{IsStored}
+use Rattle.dem_frame.proofs.FrameFacts.{frame-rows}
 
 -- ---- what holds of a value, if there is one
 
@@ -46,6 +46,10 @@ if_some : {X : Type 0} (P : X → Type 0) (o : Option X) (x : X) → IfSome o P 
 if_some P o x h e = subst (λ y. IfSome y P) e h
 
 -- ---- the next pair
+
+-- a displacement is within its range
+abbrev pub IsStored : Vec3 → Type 0
+IsStored h = Within (widened h) MAX_DISPLACEMENT
 
 -- a pair comes after the last one, and its displacement is within its range
 record IsNext (last : Option Held) (e : Held) : Type 0 where
@@ -71,13 +75,20 @@ held_from-next last p h =
 
 held_of-next : (last : Option Held) (ns : List ℤ) → IfSome (held_of last ns) (IsNext last)
 unfolding held_of
-held_of-next last ns = if_then (IsNext last) _ _ (λ a. if_then (IsNext last) _ _ (λ b. held_from-next last (record { a = a; b = b }) (vector_of ns 2)))
+held_of-next last ns =
+    if_then (IsNext last) (λ a. option_and_then (λ b. held_from last (record { a = a; b = b }) (vector_of ns 2)) (whole_of top (get_or ns 1 (pos 0)))) (whole_of top (get_or ns 0 (pos 0)))
+    (λ a. if_then (IsNext last) (λ b. held_from last (record { a = a; b = b }) (vector_of ns 2)) (whole_of top (get_or ns 1 (pos 0)))
+    (λ b. held_from-next last (record { a = a; b = b }) (vector_of ns 2)))
 
 pair_of-next : (last : Option Held) (fields : List (List ℕ)) → IfSome (pair_of last fields) (IsNext last)
 unfolding pair_of
-pair_of-next last fields = if_then (IsNext last) (held_of last) _ (held_of-next last)
+pair_of-next last fields = if_then (IsNext last) (held_of last) (row_of (codes "pair") 5 fields) (held_of-next last)
 
 -- ---- pairs that ascend
+
+-- the order of pairs is a total order
+pairs_total : IsTotalOrder pair_cmp
+pairs_total = then_total (on_total (λ (p : Pair). p.a) nat_cmp_total) (on_total (λ (p : Pair). p.b) nat_cmp_total)
 
 -- what comes after a pair is greater in the order of pairs
 after-less : (p q : Pair) → comes_after p q ≡ true → pair_cmp p q ≡ Less
@@ -99,7 +110,7 @@ ascend-push held e sorted after =
     let p : Pair = e.pair in
     let size : length ps ≡ length held = length-map held (λ (x : Held). x.pair) in
     subst (IsStrictlySortedBy pair_cmp) (sym (map_push (λ (x : Held). x.pair) held e))
-    (sorted_from_all_adjacent pair_cmp-total (ps ++ p ∷ []) p (λ k l. by k (omega (arith, length_push ps p)) size (cases_lt (k + 1) (length ps))))
+    (sorted_from_all_adjacent pairs_total (ps ++ p ∷ []) p (λ k l. by k (omega (arith, length_push ps p)) size (cases_lt (k + 1) (length ps))))
   where
     by : (k : ℕ) → k < length (held_pairs held) → length (held_pairs held) ≡ length held → ((k + 1) < length (held_pairs held)) ⊎ (length (held_pairs held) ≤ k + 1)
         → pair_cmp (get_or (held_pairs held ++ e.pair ∷ []) k e.pair) (get_or (held_pairs held ++ e.pair ∷ []) (k + 1) e.pair) ≡ Less
@@ -126,20 +137,33 @@ pub record IsRead (clumps rows : ℕ) (st : State) : Type 0 where
   pub ascending : IsStrictlySortedBy pair_cmp (held_pairs st.held)
   pub stored : All (λ (e : Held). IsStored e.h) st.held
 
+-- a frame with one more body, with one more pair, with its head
+abbrev and_body : PartialFrame → Body → PartialFrame
+and_body frame b = record frame { bodies = frame.bodies ++ b ∷ [] }
+
+abbrev and_pair : PartialFrame → Held → PartialFrame
+and_pair frame e = record frame { held = frame.held ++ e ∷ [] }
+
+abbrev and_head : PartialFrame → ℕ → PartialFrame
+and_head frame k = record frame { step = Some k }
+
+-- the state of a frame whose head has this number
+abbrev as_state : PartialFrame → ℕ → State
+as_state frame k = record { step = k; bodies = frame.bodies; held = frame.held }
+
 with_body-part : (clumps n : ℕ) (frame : PartialFrame) (fields : List (List ℕ)) → IsPart clumps n frame → IfSome (with_body clumps frame fields) (IsPart clumps (n + 1))
 unfolding with_body
 with_body-part clumps n frame fields h = by (nat_lt (length frame.bodies) clumps) refl
   where
     by : (t : Bool) → nat_lt (length frame.bodies) clumps ≡ t
-        → IfSome (if t then option_map (λ (b : Body). let f : PartialFrame = record frame { bodies = frame.bodies ++ b ∷ [] } in f) (clump_of (length frame.bodies) fields)
-        else option_map (λ (e : Held). let f : PartialFrame = record frame { held = frame.held ++ e ∷ [] } in f) (pair_of (last_held frame.held) fields)) (IsPart clumps (n + 1))
-    by true e = if_map (IsPart clumps (n + 1)) _ (clump_of (length frame.bodies) fields) (λ b is. record {
+        → IfSome (if t then option_map (and_body frame) (clump_of (length frame.bodies) fields) else option_map (and_pair frame) (pair_of (last_held frame.held) fields)) (IsPart clumps (n + 1))
+    by true e = if_map (IsPart clumps (n + 1)) (and_body frame) (clump_of (length frame.bodies) fields) (λ b is. record {
       count = let missing = ltb-true (length frame.bodies) clumps e in omega (arith, length_push frame.bodies b);
       few = let few = h.few in omega arith;
       ascending = h.ascending;
       stored = h.stored;
     })
-    by false e = if_map (IsPart clumps (n + 1)) _ (pair_of (last_held frame.held) fields) (λ x is.
+    by false e = if_map (IsPart clumps (n + 1)) (and_pair frame) (pair_of (last_held frame.held) fields) (λ x is.
       let next = if_some (IsNext (last_held frame.held)) (pair_of (last_held frame.held) fields) x (pair_of-next (last_held frame.held) fields) is in
       record {
         count = h.count;
@@ -150,7 +174,7 @@ with_body-part clumps n frame fields h = by (nat_lt (length frame.bodies) clumps
 
 with_head-part : (clumps n : ℕ) (frame : PartialFrame) (step : Option ℕ) (fields : List (List ℕ)) → IsPart clumps n frame → IfSome (with_head clumps frame step fields) (IsPart clumps (n + 1))
 unfolding with_head
-with_head-part clumps n frame None fields h = if_map (IsPart clumps (n + 1)) _ (head_of fields) (λ k is. record {
+with_head-part clumps n frame None fields h = if_map (IsPart clumps (n + 1)) (and_head frame) (head_of fields) (λ k is. record {
   count = h.count;
   few = let few = h.few in omega arith;
   ascending = h.ascending;
@@ -165,9 +189,9 @@ unfolding whole_frame
 whole_frame-read clumps rows n frame within h = by (nat_lt (length frame.bodies) clumps) refl
   where
     by : (t : Bool) → nat_lt (length frame.bodies) clumps ≡ t
-        → IfSome (if t then None else option_map (λ (k : ℕ). let st : State = record { step = k; bodies = frame.bodies; held = frame.held } in st) frame.step) (IsRead clumps rows)
+        → IfSome (if t then None else option_map (as_state frame) frame.step) (IsRead clumps rows)
     by true e = tt
-    by false e = if_map (IsRead clumps rows) _ frame.step (λ k is. record {
+    by false e = if_map (IsRead clumps rows) (as_state frame) frame.step (λ k is. record {
       count = let all = ltb-false (length frame.bodies) clumps e in let most = h.count in omega arith;
       few = let few = h.few in omega arith;
       ascending = h.ascending;
@@ -195,22 +219,9 @@ nothing-part : (clumps : ℕ) → IsPart clumps 0 nothing_read
 unfolding IsStrictlySortedBy
 nothing-part clumps = record { count = omega arith; few = omega arith; ascending = tt; stored = All-nil (λ (e : Held). IsStored e.h) }
 
--- a byte order mark takes bytes away
-strip-few : (text : List ℕ) → length (strip_bom text) ≤ length text
-unfolding strip_bom
-strip-few [] = omega arith
-strip-few (a ∷ []) = omega arith
-strip-few (a ∷ b ∷ []) = omega arith
-strip-few (a ∷ b ∷ c ∷ rest) = by (is_bom a b c)
-  where
-    by : (t : Bool) → length (if t then rest else a ∷ b ∷ c ∷ rest) ≤ length (a ∷ b ∷ c ∷ rest)
-    by true = omega arith
-    by false = omega arith
-
 -- what each frame that is read keeps
 pub frame-read : (clumps : ℕ) (text : List ℕ) → IfOk (frame_of clumps text) (IsRead clumps (length text))
-unfolding frame_of
 frame-read clumps text =
-    let rows = records-few (strip_bom text) in
-    let bytes = strip-few text in
-    frame_from-read clumps (length text) 0 nothing_read (records default_config (strip_bom text)) (omega arith) (nothing-part clumps)
+    let rows = frame-rows clumps text in
+    let few = rows.few in
+    rw rows.same (frame_from-read clumps (length text) 0 nothing_read rows.rows (omega arith) (nothing-part clumps))

@@ -1,0 +1,6 @@
+pub mod TurnFacts
+pub mod StepFacts
+pub mod HeldFacts
+pub mod FitFacts
+pub mod CheckFacts
+pub mod WritableFacts

@@ -1,9 +1,9 @@
 -- The counts of pairs: pair after pair, and the greatest of them.
-use Rattle.std.proofs.Common.{◌≡◌, ◌≢◌, ℕ, zero, suc, ◌+◌, ◌^◌, ◌<◌, ◌≤◌, Bool, true, false, cond, ◌||◌, List, [], ◌∷◌, length, get_or, take, drop, replicate, Option, None, Some, refl, sym, ap, ap₂, ◌∙◌, arith, subst, zero-add, inl, inr, find}
+use Rattle.std.proofs.Common.{◌≡◌, ◌≢◌, ℕ, zero, suc, ◌+◌, ◌^◌, ◌<◌, ◌≤◌, Bool, true, false, cond, ◌||◌, List, [], ◌∷◌, length, get_or, take, drop, replicate, Option, None, Some, refl, sym, ap, ap₂, ◌∙◌, arith, subst, zero-add, add-zero, inl, inr, find}
 use Rattle.std.specs.Prelude.{◌==◌, All, fold, max, unwrap_or}
 use Rattle.std.specs.List.{range_with_len, count_by}
 use Rattle.std.proofs.lemmas.Bool.{cases_eq, ne_eqb, eq-eqb, lt-ltb, le-ltb}
-use Rattle.std.proofs.lemmas.List.{ext_get_or, take_all, length-take, length-replicate, get_or-replicate, at_drop_more, at_drop_all}
+use Rattle.std.proofs.lemmas.List.{ext_get_or, get_or_default, take_all, length-take, length-replicate, get_or-replicate, at_drop_more, at_drop_all}
 use Rattle.std.proofs.lemmas.List.FromFn.{length-map-range_with_len, get_or-map-range_with_len, length-range_with_len, get_or-range_with_len}
 use Rattle.std.proofs.lemmas.List.Sums.{sum_by_more, count_by-le-length}
 use Rattle.dem_model.specs.SceneValue.{SceneValue}
@@ -29,10 +29,10 @@ counts-at s held k lt = get_or-map-range_with_len (λ j. count_by (is_of_clump s
 -- no pair was counted yet
 pub counts-none : (s : SceneValue) (held : List Held) (n : ℕ) → n ≡ length s.clumps → replicate n 0 ≡ counts_of s (take 0 held)
 counts-none s held n size =
-    ext_get_or 0 (replicate n 0) (counts_of s (take 0 held)) (length-replicate n 0 ∙ size ∙ sym (length-counts_of s (take 0 held)))
+    ext_get_or 0 (replicate n 0) (counts_of s (take 0 held)) (length-replicate {A = ℕ} n 0 ∙ size ∙ sym (length-counts_of s (take 0 held)))
     (λ k lt.
-    let there : k < n = omega (arith, length-replicate n 0) in
-    get_or-replicate n k 0 0 there ∙ sym (counts-at s (take 0 held) k (omega arith)))
+    let there : k < n = omega (arith, length-replicate {A = ℕ} n 0) in
+    get_or-replicate {A = ℕ} n k 0 0 there ∙ sym (counts-at s (take 0 held) k (omega arith)))
 
 -- one more pair was counted
 pub counts-more : (s : SceneValue) (held : List Held) (i : ℕ) (d : Held) (old new : List ℕ) → i < length held → old ≡ counts_of s (take i held) → CountsPair s (get_or held i d) old new
@@ -54,7 +54,7 @@ counts-few s held i counts few is k d lt =
     let size : length counts ≡ length s.clumps = ap length is ∙ length-counts_of s (take i held) in
     let here : k < length s.clumps = omega arith in
     let at : get_or counts k d ≡ count_by (is_of_clump s k) (take i held) =
-    ap (λ (xs : List ℕ). get_or xs k d) is ∙ (unfold counts_of in get_or-map-range_with_len (λ j. count_by (is_of_clump s j) (take i held)) 0 (length s.clumps) k k d here (zero-add k)) in
+    get_or_default counts k d 0 lt ∙ ap (λ (xs : List ℕ). count_at xs k) is ∙ counts-at s (take i held) k here in
     omega (arith, at, count_by-le-length (is_of_clump s k) (take i held), length-take i held)
 
 -- all pairs were counted
@@ -93,7 +93,7 @@ one-clump s e a old new first wall adds = record {
             subst (λ j. count_at new j ≡ count_at old j + one_where (is_of_clump s j e)) (sym same)
             (adds.own ∙ ap (λ b. count_at old a + one_where b) (sym (is-first s a e (sym first))))
         | inr ne ↦
-            adds.others k ne ∙ sym (ap (λ b. count_at old k + one_where b) (is-off s k e (λ f. ne (sym f ∙ sym first)) wall))
+            adds.others k ne ∙ sym (add-zero (count_at old k)) ∙ sym (ap (λ b. count_at old k + one_where b) (is-off s k e (λ f. ne (sym f ∙ sym first)) wall))
       ];
 }
 
@@ -118,6 +118,7 @@ two-counts s e a b old mid new pair first second sphere adds more =
                       (adds.own ∙ ap (λ x. count_at old a + one_where x) (sym (is-first s a e (sym first))))
                   | inr off_a ↦
                       adds.others k off_a
+                      ∙ sym (add-zero (count_at old k))
                       ∙ sym (ap (λ x. count_at old k + one_where x) (is-other s k e (λ f. off_a (sym f ∙ sym first)) sphere (λ f. off_b (sym f ∙ sym second))))
                 ]
           ];

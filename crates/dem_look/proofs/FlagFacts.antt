@@ -1,5 +1,5 @@
 -- Flags of who is low: who passed the middle height, counted by flags, is who passed it.
-use Rattle.std.proofs.Common.{◌≡◌, ℕ, zero, suc, ◌+◌, ◌<◌, ◌≤◌, Bool, true, false, cond, not, ◌&&◌, List, [], ◌∷◌, ◌++◌, length, get_or, set, map, take, Option, None, Some, refl, sym, ap, ap₂, ◌∙◌, arith, zero-add}
+use Rattle.std.proofs.Common.{◌≡◌, ℕ, zero, suc, ◌+◌, ◌<◌, ◌≤◌, Bool, true, false, cond, not, ◌&&◌, List, [], ◌∷◌, ◌++◌, length, get_or, set, map, take, Option, None, Some, refl, sym, ap, ap₂, ◌∙◌, arith, zero-add, add-zero}
 use Rattle.std.specs.Prelude.{if◌then◌else◌, option_map}
 use Rattle.std.specs.List.{range_with_len, count_by}
 use Rattle.std.proofs.lemmas.List.{take-set, take_more_set, take_all}
@@ -10,6 +10,7 @@ use Rattle.dem_model.specs.Look.{is_low, count_left, up_of, down_of}
 use Rattle.dem_model.specs.declared.state.State.{State}
 use Rattle.dem_look.specs.Looker.{lows_of}
 use Rattle.dem_look.specs.Inside.{flag_at, left_count}
+use Rattle.dem_look.proofs.MotionFacts.{sum-more}
 
 -- tests that answer the same count the same
 count-same : (p q : ℕ → Bool) (a n : ℕ) → ((k : ℕ) → k < a + n → p k ≡ q k) → count_by p (range_with_len a n) ≡ count_by q (range_with_len a n)
@@ -74,3 +75,23 @@ pub lows-all : (s : SceneValue) (st : State) (k : ℕ) (flags : List Bool) → l
 unfolding lows_of
 lows-all s st k flags size all before =
     sym (take_all k flags (omega arith)) ∙ before ∙ ap (λ n. map (is_low s st) (range_with_len 0 n)) all
+
+-- ---- how many flags are left, one after the other
+
+-- a clump with the first flag and not the second
+pub left-more : (low high : List Bool) (k count : ℕ) → count ≡ count_by (λ j. flag_at low j && not (flag_at high j)) (range_with_len 0 k) → flag_at low k ≡ true → flag_at high k ≡ false
+    → count + 1 ≡ count_by (λ j. flag_at low j && not (flag_at high j)) (range_with_len 0 (k + 1))
+left-more low high k count before is isnt =
+    sum-more (λ j. cond (flag_at low j && not (flag_at high j)) 1 0) k count 1 before (sym (ap₂ (λ (x y : Bool). cond (x && not y) 1 0) is isnt))
+
+-- a clump with both flags
+pub both-kept : (low high : List Bool) (k count : ℕ) → count ≡ count_by (λ j. flag_at low j && not (flag_at high j)) (range_with_len 0 k) → flag_at low k ≡ true → flag_at high k ≡ true
+    → count ≡ count_by (λ j. flag_at low j && not (flag_at high j)) (range_with_len 0 (k + 1))
+both-kept low high k count before is is_too =
+    sym (add-zero count) ∙ sum-more (λ j. cond (flag_at low j && not (flag_at high j)) 1 0) k count 0 before (sym (ap₂ (λ (x y : Bool). cond (x && not y) 1 0) is is_too))
+
+-- a clump without the first
+pub other-kept : (low high : List Bool) (k count : ℕ) → count ≡ count_by (λ j. flag_at low j && not (flag_at high j)) (range_with_len 0 k) → flag_at low k ≡ false
+    → count ≡ count_by (λ j. flag_at low j && not (flag_at high j)) (range_with_len 0 (k + 1))
+other-kept low high k count before isnt =
+    sym (add-zero count) ∙ sum-more (λ j. cond (flag_at low j && not (flag_at high j)) 1 0) k count 0 before (sym (ap (λ (x : Bool). cond (x && not (flag_at high k)) 1 0) isnt))

@@ -16,7 +16,7 @@ pub(crate) struct Busiest {
 }
 
 /// The greatest of these counts, and the first clump that has it.
-pub(crate) fn busiest(counts: &[u32]) -> Busiest
+pub(crate) fn find_busiest(counts: &[u32]) -> Busiest
     requires { length counts.now ≤ 16384 }
     ensures most { result.most ≡ fold max 0 counts.now }
     ensures clump { result.clump ≡ unwrap_or (find (λ k. count_at counts.now k == result.most) (range_with_len 0 (length counts.now))) 0 }

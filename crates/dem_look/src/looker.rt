@@ -5,9 +5,9 @@ ghost use Rattle.dem_model.specs.Look.{look_of};
 ghost use Rattle.dem_model.specs.declared.state.State.{State as StateValue};
 ghost use Rattle.dem_look.specs.Looker.{Shows};
 
-use crate::contacts::{busiest, count_contacts};
+use crate::contacts::{count_contacts, find_busiest};
 use crate::heights::highest;
-use crate::middle::{crossing, flag_lows};
+use crate::middle::{crossings, flag_lows};
 use crate::motion::kinetic;
 use dem_model::{LookRow, OutOfMemory, State};
 use dem_shape::Shapes;
@@ -58,10 +58,11 @@ impl Looker {
         ensures shows { Shows shapes.now self.new (Some state.now) }
         ensures made { self.new.clumps ≡ self.old.clumps }
     {
+        let _scene = shapes.scene();
         flag_lows(self.now.as_mut_slice(), shapes, state);
         count_contacts(self.counts.as_mut_slice(), shapes, state.held.as_slice());
-        let crossed = crossing(self.seen, self.low.as_slice(), self.now.as_slice());
-        let contacts = busiest(self.counts.as_slice());
+        let crossed = crossings(self.seen, self.low.as_slice(), self.now.as_slice());
+        let contacts = find_busiest(self.counts.as_slice());
         std::mem::swap(&mut self.low, &mut self.now);
         self.seen = true;
         LookRow {

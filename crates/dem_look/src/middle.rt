@@ -17,7 +17,7 @@ pub(crate) struct Crossing {
 }
 
 /// How many clumps passed the middle height, from these flags of who was low to those of who is; none where nothing was seen before.
-pub(crate) fn crossing(seen: bool, low: &[bool], now: &[bool]) -> Crossing
+pub(crate) fn crossings(seen: bool, low: &[bool], now: &[bool]) -> Crossing
     requires few { length low.now ≤ 16384 }
     requires same { length now.now ≡ length low.now }
     ensures up { result.up ≡ (if seen then left_count low.now now.now else 0) }

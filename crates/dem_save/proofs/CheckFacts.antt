@@ -6,6 +6,7 @@ use Rattle.std.specs.Option.{option_map_or}
 use Rattle.std.proofs.lemmas.Bool.{cases_Bool, and_parts, leb-true, le-leb, lt-ltb, le-ltb, ltb-true, ltb-false, not-false}
 use Rattle.std.proofs.lemmas.Bool.Decides.{nat_tests}
 use Rattle.std.proofs.lemmas.Iterator.Adapters.{position_from-zero}
+use Rattle.std.proofs.lemmas.List.{get_or_default}
 use Rattle.std.proofs.lemmas.List.Elements.{All-nil, All-cons}
 use Rattle.std.proofs.lemmas.List.Sums.{AllPass-from_list_all, list_all-from_AllPass}
 use Rattle.std.proofs.lemmas.Option.{none-some}
@@ -15,7 +16,7 @@ use Rattle.dem_num.specs.Vectors.{widened, Within}
 use Rattle.dem_num.specs.Rotations.{quat_norm2_of, QuatWithin, IsOrientation}
 use Rattle.dem_num.proofs.QuatSizes.{quat_within, quat_norm2_le}
 use Rattle.dem_model.specs.SceneValue.{SceneValue}
-use Rattle.dem_model.specs.Centers.{body_at}
+use Rattle.dem_model.specs.Centers.{body_at, still_body}
 use Rattle.dem_model.specs.Fit.{held_pairs, IsFit}
 use Rattle.dem_model.specs.Motion.{AreSound, IsPair}
 use Rattle.dem_model.specs.Pairs.{sphere_count, limit_of, apart}
@@ -116,17 +117,28 @@ sound-passed s c b h =
     both_true : (x y : Bool) → x ≡ true → y ≡ true → (x && y) ≡ true
     both_true x y a b = rw (a, b) refl
 
+-- the check of a clump's body, by what was read of the scene
+pub body-checked : (s scene : SceneValue) (bodies : List Body) (k t : ℕ) (d : Body) (balls : List Ball) → scene ≡ s → t ≡ (clump_at scene k).t → balls ≡ balls_of scene.templates t → k < length bodies
+    → (in_limits scene (get_or bodies k d) && (is_long (get_or bodies k d).q && is_inside scene (get_or bodies k d) balls)) ≡ is_body_of s (clump_at s k) (body_at bodies k)
+unfolding is_body_of body_at
+body-checked s scene bodies k t d balls same number read lt =
+    let body : Body = get_or bodies k still_body in
+    ap (λ (b : Body). in_limits scene b && (is_long b.q && is_inside scene b balls)) (get_or_default bodies k d still_body lt)
+    ∙ ap (λ (x : List Ball). in_limits scene body && (is_long body.q && is_inside scene body x)) (read ∙ ap (balls_of scene.templates) number)
+    ∙ ap (λ (x : SceneValue). in_limits x body && (is_long body.q && is_inside x body (balls_of x.templates (clump_at x k).t))) same
+
 -- ---- all bodies
 
 -- no number passes where none is found, and the other way round
 none-found : (test : ℕ → Bool) (a n : ℕ) → find test (range_with_len a n) ≡ None → (k : ℕ) → k < n → test (a + k) ≡ false
 none-found test a zero none k lt = absurd (omega arith)
-none-found test a (suc n) none k lt = by (test a) refl k lt none
+none-found test a (suc n) none k lt = by (test a) refl k lt none (none-found test (a + 1) n)
   where
-    by : (t : Bool) → test a ≡ t → (j : ℕ) → j < suc n → cond t (Some a) (find test (range_with_len (a + 1) n)) ≡ None → test (a + j) ≡ false
-    by true e j l f = absurd (none-some a (sym f))
-    by false e zero l f = let here : a ≡ a + 0 = omega arith in ap test (sym here) ∙ e
-    by false e (suc j) l f = let there : a + 1 + j ≡ a + suc j = omega arith in ap test (sym there) ∙ none-found test (a + 1) n f j (omega arith)
+    by : (t : Bool) → test a ≡ t → (j : ℕ) → j < suc n → cond t (Some a) (find test (range_with_len (a + 1) n)) ≡ None
+        → (find test (range_with_len (a + 1) n) ≡ None → (i : ℕ) → i < n → test (a + 1 + i) ≡ false) → test (a + j) ≡ false
+    by true e j l f behind = absurd (none-some a (sym f))
+    by false e zero l f behind = let here : a ≡ a + 0 = omega arith in ap test (sym here) ∙ e
+    by false e (suc j) l f behind = let there : a + 1 + j ≡ a + suc j = omega arith in ap test (sym there) ∙ behind f j (omega arith)
 
 found-none : (test : ℕ → Bool) (a n : ℕ) → ((k : ℕ) → k < n → test (a + k) ≡ false) → find test (range_with_len a n) ≡ None
 found-none test a zero fails = refl
@@ -173,11 +185,12 @@ pair-passed s p h = rw (lt-ltb p.a (sphere_count s) h.first, lt-ltb p.b (limit_o
 -- no element passes where none is found, and the other way round
 none-placed : {X : Type 0} (test : X → Bool) (i : ℕ) (xs : List X) → position_from test i xs ≡ None → All (λ x. test x ≡ false) xs
 none-placed test i [] none = All-nil (λ x. test x ≡ false)
-none-placed test i (x ∷ xs) none = by (test x) refl none
+none-placed test i (x ∷ xs) none = by (test x) refl none (none-placed test (i + 1) xs)
   where
-    by : (t : Bool) → test x ≡ t → cond t (Some i) (position_from test (i + 1) xs) ≡ None → All (λ y. test y ≡ false) (x ∷ xs)
-    by true e f = absurd (none-some i (sym f))
-    by false e f = All-cons (λ y. test y ≡ false) x xs e (none-placed test (i + 1) xs f)
+    by : (t : Bool) → test x ≡ t → cond t (Some i) (position_from test (i + 1) xs) ≡ None → (position_from test (i + 1) xs ≡ None → All (λ y. test y ≡ false) xs)
+        → All (λ y. test y ≡ false) (x ∷ xs)
+    by true e f behind = absurd (none-some i (sym f))
+    by false e f behind = All-cons (λ y. test y ≡ false) x xs e (behind f)
 
 placed-none : {X : Type 0} (test : X → Bool) (i : ℕ) (xs : List X) → All (λ x. test x ≡ false) xs → position_from test i xs ≡ None
 placed-none test i [] fails = refl

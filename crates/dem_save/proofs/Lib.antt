@@ -4,3 +4,4 @@ pub mod HeldFacts
 pub mod FitFacts
 pub mod CheckFacts
 pub mod WritableFacts
+pub mod LoadFacts

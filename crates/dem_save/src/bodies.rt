@@ -23,14 +23,14 @@ const MAX_COMPONENT: u64 = 2_147_483_648;
 
 /// Whether the body of a clump is sound for it: within the limits, of a length that turns, inside the box with the centers of its spheres.
 #[tactic(auto, unfolding(crate::specs::Loaded::is_body_of))]
-pub(crate) fn is_sound(shapes: &Shapes, bodies: &[Body], clump: u32) -> bool
+pub(crate) fn is_sound(shapes: &Shapes, bodies: &[Body], clump: usize) -> bool
     requires count { length bodies.now ≡ length shapes.now.clumps }
     requires there { clump < length shapes.now.clumps }
     ensures { result ≡ is_body_of shapes.now (clump_at shapes.now clump) (body_at bodies.now clump) }
 {
     let scene = shapes.scene();
     let balls = balls(scene, template(scene, clump));
-    is_body(scene, bodies[clump as usize], balls)
+    is_body(scene, bodies[clump], balls)
 }
 
 // Whether a body is sound for a clump with these spheres.
@@ -43,13 +43,13 @@ fn is_body(scene: &Scene, body: Body, balls: &[Ball]) -> bool
 }
 
 // The number of a clump's template.
-fn template(scene: &Scene, clump: u32) -> u32
+fn template(scene: &Scene, clump: usize) -> u32
     requires scene { IsSound scene.now }
     requires clump { clump < length scene.now.clumps }
     ensures value { result ≡ (clump_at scene.now clump).t }
     ensures there { result < length scene.now.templates }
 {
-    scene.clumps.get(clump as usize).t
+    scene.clumps.get(clump).t
 }
 
 // The spheres of a template.

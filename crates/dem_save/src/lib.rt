@@ -11,7 +11,9 @@ mod bodies;
 mod fault;
 mod laws;
 mod loading;
+mod resting;
 
 pub use fault::{RestFault, SaveFault};
 pub use laws::{fit_law, load_law};
 pub use loading::load;
+pub use resting::rest;

@@ -1,5 +1,5 @@
 //! A saved frame, read and checked against the scene.
-ghost use Rattle.std.specs.Prelude.{◌≡◌, ◌≤◌, ◌<◌, length, option_map, IfOk};
+ghost use Rattle.std.specs.Prelude.{◌≡◌, ◌≤◌, ◌<◌, length, IfOk, IfSome};
 ghost use Rattle.dem_model.specs.Fit.{IsFit};
 ghost use Rattle.dem_save.specs.Loaded.{Gives, checked_of, is_pair as is_pair_of, loaded_of, stray_in as stray_of, unsound_in as unsound_of};
 
@@ -38,33 +38,35 @@ fn checked(shapes: &Shapes, state: State) -> Result<State, SaveFault>
         return Err(SaveFault::Step);
     }
     if let Some(clump) = unsound(shapes, state.bodies.as_slice()) {
-        return Err(SaveFault::Body { clump });
+        return Err(SaveFault::Body {
+            clump: clump as u32,
+        });
     }
     if let Some(place) = stray(shapes, state.held.as_slice()) {
-        return Err(SaveFault::Held { place });
+        return Err(SaveFault::Held {
+            place: place as u32,
+        });
     }
     Ok(state)
 }
 
 // The first clump whose body isn't sound for it.
 #[tactic(auto, unfolding(crate::specs::Loaded::unsound_in))]
-fn unsound(shapes: &Shapes, bodies: &[Body]) -> Option<u32>
+fn unsound(shapes: &Shapes, bodies: &[Body]) -> Option<usize>
     requires { length bodies.now ≡ length shapes.now.clumps }
-    ensures { result ≡ unsound_of shapes.now bodies.now }
+    ensures value { result ≡ unsound_of shapes.now bodies.now }
+    ensures within { IfSome result (λ k. k < length shapes.now.clumps) }
 {
-    (0..bodies.len() as u32).find(|k| !is_sound(shapes, bodies, *k))
+    (0..bodies.len()).find(|k| !is_sound(shapes, bodies, *k))
 }
 
 // The first place of what is held, from 0, whose pair may not touch.
 #[tactic(auto, unfolding(crate::specs::Loaded::stray_in))]
-fn stray(shapes: &Shapes, held: &[Held]) -> Option<u32>
-    requires { length held.now ≤ 268435456 }
-    ensures { result ≡ stray_of shapes.now held.now }
+fn stray(shapes: &Shapes, held: &[Held]) -> Option<usize>
+    ensures value { result ≡ stray_of shapes.now held.now }
+    ensures within { IfSome result (λ i. i < length held.now) }
 {
-    match held.iter().position(|e| !is_pair(shapes, e.pair)) {
-        Some(place) => Some(place as u32),
-        None => None,
-    }
+    held.iter().position(|e| !is_pair(shapes, e.pair))
 }
 
 // Whether a pair is one of all pairs that may touch.

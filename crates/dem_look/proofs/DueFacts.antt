@@ -2,27 +2,18 @@
 use Rattle.std.proofs.Common.{◌≡◌, ℕ, zero, suc, ◌+◌, ◌<◌, ◌≤◌, List, [], ◌∷◌, Option, None, Some, Result, Ok, Err, refl, sym, ap, ◌∙◌, add-one, arith}
 use Rattle.std.specs.Prelude.{option_and_then}
 use Rattle.std.specs.List.{filter_map, range_with_len, cons_option}
-use Rattle.std.specs.Result.{result_ok}
-use Rattle.std.proofs.lemmas.Bool.{lt-ltb}
 use Rattle.dem_model.specs.SceneValue.{SceneValue}
 use Rattle.dem_model.specs.Step.{step_of}
-use Rattle.dem_model.specs.Plain.{first_state, state_after, run_after}
+use Rattle.dem_model.specs.Plain.{first_state, run_after}
 use Rattle.dem_model.specs.Output.{due_state, due_states}
 use Rattle.dem_model.specs.declared.state.State.{State}
 use Rattle.dem_model.specs.declared.state.End.{End}
-use Rattle.dem_output.proofs.RunLaw.{by_step, step_of-step}
+use Rattle.dem_output.proofs.RunLaw.{by_step, step_of-step, begins-at, run_after-next}
 
 -- the states that are due in this many more steps
 unfoldable pub dues_from : SceneValue → ℕ → State → List State
 dues_from s zero st = []
 dues_from s (suc k) st = by_step (λ next. cons_option (due_state s next) (dues_from s k next)) (λ _. []) (step_of s st)
-
--- the state after one that is reached
-run_after-next : (s : SceneValue) (start : State) (n : ℕ) (st : State) → st.step < s.steps → run_after s start n ≡ Some st → run_after s start (n + 1) ≡ by_step Some (λ _. None) (step_of s st)
-unfolding run_after state_after
-run_after-next s start n st below here =
-    let lt = lt-ltb st.step s.steps below in
-    rw (add-one, here, lt) (elim (step_of s st) as (λ r. result_ok r ≡ by_step Some (λ _. None) r) [ Ok next ↦ refl | Err e ↦ refl ])
 
 -- no state after none
 run_after-none : (s : SceneValue) (start : State) (n : ℕ) → run_after s start n ≡ None → run_after s start (n + 1) ≡ None
@@ -55,10 +46,7 @@ dues-left s start (suc k) n st here left =
     dues-step s start k n (step_of s st) (run_after-next s start n st (omega arith) here)
     (λ next e there. dues-left s start k (n + 1) next there (omega (arith, step_of-step s st next e)))
 
-starts-at : (s : SceneValue) → run_after s (first_state s) 0 ≡ Some (first_state s)
-unfolding run_after
-starts-at s = refl
-
+-- the first state has number 0
 pub starts-zero : (s : SceneValue) → (first_state s).step ≡ 0
 unfolding first_state
 starts-zero s = refl
@@ -68,7 +56,7 @@ pub dues-first : (s : SceneValue) → due_states s (first_state s) (range_with_l
 unfolding due_states run_after
 dues-first s =
     ap (λ k. due_states s (first_state s) (range_with_len 0 k)) (add-one s.steps)
-    ∙ ap (cons_option (due_state s (first_state s))) (dues-left s (first_state s) s.steps 0 (first_state s) (starts-at s) (omega (arith, starts-zero s)))
+    ∙ ap (cons_option (due_state s (first_state s))) (dues-left s (first_state s) s.steps 0 (first_state s) (begins-at s (first_state s)) (omega (arith, starts-zero s)))
 
 -- after a step
 pub dues-next : (s : SceneValue) (k : ℕ) (st next : State) → step_of s st ≡ Ok next → dues_from s (suc k) st ≡ cons_option (due_state s next) (dues_from s k next)

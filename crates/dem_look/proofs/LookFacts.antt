@@ -1,7 +1,7 @@
 -- What the loop of a run that is looked at keeps: the rows it wrote, those it has still to write, and how the run ends.
 use Rattle.std.proofs.Common.{◌≡◌, ℕ, zero, suc, ◌+◌, ◌-◌, ◌<◌, ◌≤◌, true, false, List, [], ◌∷◌, ◌++◌, Option, None, Some, Ok, Err, refl, sym, ap, ◌∙◌, append_assoc, append-nil, arith, subst}
 use Rattle.std.specs.Prelude.{if◌then◌else◌}
-use Rattle.std.specs.List.{cons_option, filter_map, range_with_len}
+use Rattle.std.specs.List.{cons_option}
 use Rattle.std.specs.Io.KnownBytes.{Appends, Keeps}
 use Rattle.std.proofs.KnownBytes.{Appends-kept}
 use Rattle.dem_outside.specs.Known.{AppendsPrefix}
@@ -9,7 +9,7 @@ use Rattle.dem_outside.proofs.Prefixes.{AppendsPrefix-longer}
 use Rattle.dem_outside.proofs.Written.{Written, Written-start, Written-piece, Written-prefix, Written-failed, Written-all}
 use Rattle.dem_model.specs.SceneValue.{SceneValue}
 use Rattle.dem_model.specs.Step.{step_of}
-use Rattle.dem_model.specs.Plain.{first_state, run_after, end_after, last_among, last_after, last_of}
+use Rattle.dem_model.specs.Plain.{first_state, last_of}
 use Rattle.dem_model.specs.Frames.{last_text}
 use Rattle.dem_model.specs.Look.{look_of, look_text, looks_text, looked_at}
 use Rattle.dem_model.specs.Output.{is_due, due_state, due_states}
@@ -17,7 +17,7 @@ use Rattle.dem_model.specs.declared.state.State.{State}
 use Rattle.dem_model.specs.declared.state.End.{End}
 use Rattle.dem_model.specs.declared.state.Last.{Last}
 use Rattle.dem_model.specs.declared.state.Last.TheVariants.{Done, Passed}
-use Rattle.dem_output.proofs.RunLaw.{by_step, last_from, last-left, step_of-step}
+use Rattle.dem_output.proofs.RunLaw.{by_step, last_from, last_after-left, step_of-step}
 use Rattle.dem_look.specs.Looking.{due_look, shown_after}
 use Rattle.dem_look.proofs.DueFacts.{dues_from, starts-zero, dues-first, dues-next, dues-end, dues-done}
 
@@ -48,12 +48,9 @@ looked-first s =
     (sym (looks-cons s None (first_state s) (dues_from s s.steps (first_state s))) ∙ ap (looks_text s None) (sym (dues-first s)))
 
 -- how a whole run ends
-last-first : (s : SceneValue) → last_from s s.steps (first_state s) ≡ last_of s
-unfolding last_of last_after
-last-first s =
-    let zero_left : s.steps - (first_state s).step ≡ s.steps = omega (arith, starts-zero s) in
-    sym (last-left s (first_state s) s.steps 0 (first_state s) (unfold run_after in refl) (omega (arith, starts-zero s)))
-    ∙ ap (λ k. last_among s.steps (filter_map (end_after s (first_state s)) (range_with_len 0 k))) (sym zero_left)
+last-first : (s : SceneValue) → last_from s (s.steps - (first_state s).step) (first_state s) ≡ last_of s
+unfolding last_of
+last-first s = sym (last_after-left s (first_state s) (omega (arith, starts-zero s)))
 
 -- a run that is looked at stands at this state, where that one was shown last
 pub record StandsLooking (old now : Option (List ℕ)) (s : SceneValue) (before : Option State) (st : State) : Type 0 where
@@ -64,12 +61,11 @@ pub record StandsLooking (old now : Option (List ℕ)) (s : SceneValue) (before 
 -- the row of the first state was written, where it is due
 pub StandsLooking-start : (old now : Option (List ℕ)) (s : SceneValue) → Appends old now (due_look s None (first_state s)) → StandsLooking old now s (shown_after s None (first_state s)) (first_state s)
 StandsLooking-start old now s first =
-    let zero_left : s.steps - (first_state s).step ≡ s.steps = omega (arith, starts-zero s) in
     record {
       in_range = omega (arith, starts-zero s);
       written = Written-piece old old now (due_look s None (first_state s)) (looks_left s (shown_after s None (first_state s)) (first_state s)) (looked_at s)
           (subst (λ l. Written old old l (looked_at s)) (sym (looked-first s)) (Written-start old (looked_at s))) first;
-      ends = ap (λ k. last_from s k (first_state s)) zero_left ∙ last-first s;
+      ends = last-first s;
     }
 
 -- its put failed

@@ -19,6 +19,10 @@ use Rattle.dem_look.specs.Looker.{LookerValue, Shows}
 use Rattle.dem_look.specs.Looking.{due_look, shown_after, MakesLook, WritesLook}
 use Rattle.dem_look.proofs.LookFacts.{StandsLooking, StandsLooking-start, first-failed, StandsLooking-more, StandsLooking-failed, StandsLooking-front, StandsLooking-end, LacksEnd, LacksEnd-kept}
 
+-- a new run of a scene, where the shapes are those of that scene
+pub new-run : (shapes s : SceneValue) (run : Run) → run ≡ record { scene = s; state = first_state s; whole = true } → shapes ≡ s → run ≡ record { scene = shapes; state = first_state shapes; whole = true }
+new-run shapes s run new same = new ∙ ap (λ (x : SceneValue). (let r : Run = record { scene = x; state = first_state x; whole = true } in r)) (sym same)
+
 -- what the loop keeps: the run is the whole run of this scene, the looker shows the state that was due last, and no put failed
 pub record LooksOn (old now : Option (List ℕ)) (faults faults_now : ℕ) (s : SceneValue) (run : Run) (looker : LookerValue) : Type 0 where
   pub before : Option State

@@ -1,5 +1,5 @@
 -- How many pairs a fit state can hold: no two are the same, and each is one of those that may touch.
-use Rattle.std.proofs.Common.{◌≡◌, ℕ, ◌+◌, ◌*◌, ◌^◌, ◌<◌, ◌≤◌, List, length, get_or, map, sym, ap, ◌∙◌, arith, subst}
+use Rattle.std.proofs.Common.{◌≡◌, ℕ, ◌+◌, ◌*◌, ◌^◌, ◌<◌, ◌≤◌, List, length, get_or, map, arith}
 use Rattle.std.specs.Prelude.{All}
 use Rattle.std.specs.Ordering.{nat_cmp}
 use Rattle.std.specs.List.Sorted.{IsStrictlySortedBy}
@@ -66,5 +66,8 @@ numbers-small s held sound pairs k d lt =
 -- so there are at most that many
 pub held-few : (s : SceneValue) (st : State) → IsSound s → IsFit s st → length st.held ≤ 2 ^ 31
 held-few s st sound fit =
-    omega (arith, length-map st.held (λ (e : Held). number_of e.pair),
-    length-le_from_below (2 ^ 31) (map (λ (e : Held). number_of e.pair) st.held) (numbers-ascend s st.held sound fit.pairs fit.ascending) (numbers-small s st.held sound fit.pairs))
+    omega (
+      arith,
+      length-map st.held (λ (e : Held). number_of e.pair),
+      length-le_from_below (2 ^ 31) (map (λ (e : Held). number_of e.pair) st.held) (numbers-ascend s st.held sound fit.pairs fit.ascending) (numbers-small s st.held sound fit.pairs),
+    )

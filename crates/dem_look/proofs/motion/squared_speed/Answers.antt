@@ -1,4 +1,4 @@
-use Rattle.std.proofs.Common.{◌≡◌, ◌^◌, sym, ap, ◌∙◌, subst, arith}
+use Rattle.std.proofs.Common.{◌^◌, sym, ap, ◌∙◌, subst, arith}
 use Rattle.dem_num.specs.Vectors.{widened, Within, norm2_of}
 use Rattle.dem_num.specs.declared.vector.Wide3.{Wide3}
 use Rattle.dem_num.proofs.VectorSizes.{within_wider}
@@ -17,5 +17,8 @@ returns-clause-value c =
 
 pub returns-clause-size : goal.returns-clause-size
 returns-clause-size c =
-    omega (arith, c.norm2.ensures ∙ ap norm2_of c.widen.ensures,
-    speed-size c.args.shapes.now c.args.state.now.bodies c.args.clump c.get.result.now c.scene-scene.ensures.sound c.requires.sound c.requires.there c.get.ensures)
+    omega (
+      arith,
+      c.norm2.ensures ∙ ap norm2_of c.widen.ensures,
+      speed-size c.args.shapes.now c.args.state.now.bodies c.args.clump c.get.result.now c.scene-scene.ensures.sound c.requires.sound c.requires.there c.get.ensures,
+    )

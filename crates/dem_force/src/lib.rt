@@ -14,6 +14,7 @@ mod sums;
 mod touching;
 
 pub use advancing::clump::advance;
+pub use advancing::limits::in_box;
 pub use advancing::unswung::never_swings;
 pub use dem_model::{Law, Push, Side, Touch};
 pub use pushing::law::contact;

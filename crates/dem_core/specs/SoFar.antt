@@ -1,17 +1,19 @@
 -- What a run on lists has written so far, and which rows it has noted.
-use Rattle.std.specs.Prelude.{ℕ, ◌≡◌, ◌+◌, ◌<◌, ◌≤◌, List, [], ◌∷◌, ◌++◌, length, filter, Option, Some, None}
+use Rattle.std.specs.Prelude.{ℕ, ◌≡◌, ◌+◌, ◌<◌, ◌≤◌, List, [], ◌∷◌, ◌++◌, length, Option, Some, None}
 use Rattle.std.specs.Io.KnownBytes.{Appends}
 use Rattle.std.specs.List.{flat_map, range_with_len, AllByRecursion}
 use Rattle.dem_model.specs.SceneValue.{SceneValue}
-use Rattle.dem_model.specs.Output.{is_due, frame_at}
+use Rattle.dem_model.specs.Frames.{state_text}
+use Rattle.dem_model.specs.Output.{due_states}
+use Rattle.dem_model.specs.Plain.{first_state}
 use Rattle.dem_model.specs.declared.state.Last.{Last}
 use Rattle.dem_model.specs.declared.state.TakenRow.{TakenRow}
 use Rattle.dem_model.specs.World.{Course, end_text, rows_text}
 use Rattle.dem_model.specs.TakenRows.{AreRows, BeginsAtFirst, begun, tests_until}
 
--- the frames that are due up to the state of this number
+-- the frames of the plain run that are due up to the state of this number
 unfoldable pub frames_to : SceneValue → ℕ → List ℕ
-frames_to s n = flat_map (frame_at s) (filter (is_due s) (range_with_len 0 (n + 1)))
+frames_to s n = flat_map state_text (due_states s (first_state s) (range_with_len 0 (n + 1)))
 
 -- what a run has written: the frames that are due up to its state, and the end row where it has ended
 unfoldable pub text_so_far : SceneValue → Course → List ℕ

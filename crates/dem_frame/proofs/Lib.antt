@@ -7,3 +7,6 @@ pub mod DecimalFacts
 pub mod LineFacts
 pub mod ReadOnFacts
 pub mod ReadBackFacts
+pub mod RecordFacts
+pub mod FrameFacts
+pub mod KeptFacts

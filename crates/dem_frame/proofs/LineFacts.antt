@@ -53,7 +53,7 @@ unfolding Lines
 Lines-none = refl
 
 -- an empty text has no record
-no_record : next_record default_config st.StartRecord [] [] [] ≡ None
+pub no_record : next_record default_config st.StartRecord [] [] [] ≡ None
 unfolding next_record
 no_record = refl
 

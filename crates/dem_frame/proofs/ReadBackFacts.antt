@@ -12,12 +12,13 @@ use Rattle.dem_model.specs.declared.state.Body.{Body}
 use Rattle.dem_model.specs.declared.state.Held.{Held}
 use Rattle.dem_model.specs.declared.state.State.{State}
 use Rattle.dem_frame.specs.Records.{continues}
-use Rattle.dem_frame.specs.PartialFrames.{nothing_read, read_on, with_record, with_head, with_body, last_held, whole_frame, ReadsFrame}
+use Rattle.dem_frame.specs.PartialFrames.{nothing_read, read_on, with_record, with_head, with_body, last_held, whole_frame, frame_of, ReadsFrame}
 use Rattle.dem_frame.specs.ReadBack.{FitEach, BodyFits, body_numbers, IsOrdered, IsStored, Ascends, IsWritable, GivesState, ReadsBack}
 use Rattle.dem_frame.specs.declared.partial.PartialFrame.{PartialFrame}
 use Rattle.dem_frame.specs.declared.partial.FrameFault.{FrameFault}
 use Rattle.dem_frame.specs.declared.partial.FrameFault.TheVariants.{Bad, Short, OutOfMemory}
-use Rattle.dem_frame.proofs.LineFacts.{Lines, Lines-row, Lines-none, lines_before, lines_all}
+use Rattle.dem_frame.proofs.FrameFacts.{frame_value}
+use Rattle.dem_frame.proofs.LineFacts.{Lines, Lines-row, Lines-none, lines_before, lines_all, no_record}
 use Rattle.dem_frame.proofs.ReadOnFacts.{fits_small, all_first, all_behind, head_fields, clump_fields, pair_fields, pair_fit, head_reads, clump_reads, pair_reads}
 
 -- ---- the records of a state
@@ -172,3 +173,18 @@ gives_state s text clumps (Err OutOfMemory) is same all reads = tt
 -- what is read by the records of a text reads the frame of a state back as that state
 pub reads_back : (clumps : ℕ) (text : List ℕ) (result : Result State FrameFault) → ReadsFrame clumps text result → ReadsBack clumps text result
 reads_back clumps text result reads s is same all = gives_state s text clumps result is same all reads
+
+-- ---- the text of a state, as a frame
+
+-- its lines are reached one after the other
+lines_reached : (text : List ℕ) (rows : List (List (List ℕ))) → Lines text rows → Reached default_config st.StartRecord text rows st.StartRecord []
+unfolding Lines Reached
+lines_reached text [] lines = (refl, lines)
+lines_reached text (row ∷ rows) lines = ((row, st.StartRecord, lines.0), lines.1, refl, lines_reached lines.0 rows lines.2)
+
+-- the frame of a state reads as that state
+pub state_frame : (s : State) (clumps : ℕ) → IsWritable s → clumps ≡ length s.bodies → frame_of clumps (state_text s) ≡ Ok s
+state_frame s clumps is all =
+    let reached : Reached default_config st.StartRecord (strip_bom (state_text s)) (state_rows s) st.StartRecord [] = rw (no_mark s) (lines_reached (state_text s) (state_rows s) (lines_state s is)) in
+    frame_value clumps (state_text s) (Ok s)
+    (state_rows s, (st.StartRecord, [], reached, no_record), read_so_far s.step s.bodies s.held, state_reads s clumps is all, whole_state s clumps all)

@@ -1,6 +1,7 @@
 -- A frame as far as it was read: record after record.
-use Rattle.std.specs.Prelude.{ℕ, ◌-◌, ◌+◌, ◌++◌, ◌≡◌, List, [], ◌∷◌, length, nat_lt, if◌then◌else◌, Option, None, Some, option_map, option_and_then, slice_get, Result, Ok, Err, ⊤}
-use Rattle.csv.specs.Reading.{AreRecords, Reached, default_config, strip_bom}
+use Rattle.std.specs.Prelude.{ℕ, ◌-◌, ◌+◌, ◌++◌, ◌≡◌, List, [], ◌∷◌, length, nat_lt, if◌then◌else◌, Option, None, Some, option_map, option_and_then, ok_or, slice_get, Result, Ok, Err, ⊤}
+use Rattle.std.specs.Option.{option_map_or}
+use Rattle.csv.specs.Reading.{AreRecords, Reached, default_config, records, strip_bom}
 use Rattle.csv.specs.declared.parser.State.TheVariants as st
 use Rattle.dem_model.specs.declared.state.State.{State}
 use Rattle.dem_model.specs.declared.state.Held.{Held}
@@ -43,6 +44,26 @@ unfoldable pub whole_frame : ℕ → PartialFrame → Option State
 whole_frame clumps frame =
     if nat_lt (length frame.bodies) clumps then None
     else option_map (λ n. record { step = n; bodies = frame.bodies; held = frame.held }) frame.step
+
+-- the state that these records give, behind so many that were read; or the first of them that no good frame has there, or how many there are where something is missing
+unfoldable pub frame_from : ℕ → ℕ → PartialFrame → List (List (List ℕ)) → Result State FrameFault
+frame_from clumps before frame [] = ok_or (whole_frame clumps frame) (Short before)
+frame_from clumps before frame (row ∷ rows) =
+    option_map_or (λ next. frame_from clumps (before + 1) next rows) (with_record clumps frame row) (Err (Bad (before + 1)))
+
+-- the state that a text is, as a frame of so many clumps, or why it is none
+unfoldable pub frame_of : ℕ → List ℕ → Result State FrameFault
+frame_of clumps text = frame_from clumps 0 nothing_read (records default_config (strip_bom text))
+
+-- a fault is that of the definition; OutOfMemory tells nothing
+abbrev pub Fails : FrameFault → Result State FrameFault → Type 0
+Fails OutOfMemory frame = ⊤
+Fails fault frame = frame ≡ Err fault
+
+-- the answer is that of the definition, unless there was no memory
+abbrev pub Gives : Result State FrameFault → Result State FrameFault → Type 0
+Gives (Ok s) frame = frame ≡ Ok s
+Gives (Err fault) frame = Fails fault frame
 
 -- how a text reads as a frame of so many clumps
 abbrev pub ReadsFrame : ℕ → List ℕ → Result State FrameFault → Type 0

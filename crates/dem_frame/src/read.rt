@@ -1,6 +1,6 @@
 //! A frame read back from its text.
 ghost use Rattle.std.specs.Prelude.{◌<◌, ◌≤◌, length};
-ghost use Rattle.dem_frame.specs.PartialFrames.{ReadsFrame};
+ghost use Rattle.dem_frame.specs.PartialFrames.{ReadsFrame, Gives, frame_of};
 ghost use Rattle.dem_frame.specs.ReadBack.{ReadsBack};
 
 use crate::partial::{FrameFault, PartialFrame};
@@ -13,6 +13,7 @@ pub fn read_frame(alloc: Global, bytes: &[u8], clumps: u32) -> Result<State, Fra
     requires some { 0 < clumps }
     requires clumps { clumps ≤ 16384 }
     requires size { length bytes.now ≤ 268435456 }
+    ensures value { Gives result (frame_of clumps bytes.now) }
     ensures reads { ReadsFrame clumps bytes.now result }
     ensures back { ReadsBack clumps bytes.now result }
 {

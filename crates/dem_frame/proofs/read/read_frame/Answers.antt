@@ -6,6 +6,7 @@ use Rattle.csv.proofs.ReadFacts.{rows-more, rows-end}
 use Rattle.dem_frame.specs.declared.partial.FrameFault.TheVariants.{Bad, Short}
 use Rattle.dem_frame.specs.PartialFrames.{with_record, read_on, nothing_read}
 use Rattle.dem_frame.proofs.PartialFacts.{read_on-more}
+use Rattle.dem_frame.proofs.FrameFacts.{frame_value}
 use Rattle.dem_frame.proofs.ReadBackFacts.{reads_back}
 use Rattle.dem_frame.proofs.read.read_frame.Goals as goal
 
@@ -56,21 +57,34 @@ returns-in-Ok-false-clause-reads c =
     let m = rows-more (λ (s : Bor (List ℕ)). Some s.now) c.loop-row.row-iterator.rdr c.next.new.self.rdr (fields_of c.in-Ok.row) default_config st.StartRecord (strip_bom c.args.bytes.now) inv.4 inv.6 inv.3 inv.5 inv.7 s.0 in
     (inv.6, fields_of c.in-Ok.row, c.loop-row.frame, (c.next.new.self.rdr.state, m.0, m.2), inv.8, rw c.in-Ok-false.field-0-test at c.in-Ok-false.ensures, omega (arith, inv.9))
 
+pub returns-in-Ok-false-clause-value : goal.returns-in-Ok-false-clause-value
+returns-in-Ok-false-clause-value c = frame_value c.args.clumps c.args.bytes.now (Err (Bad c.in-Some-checked_add.number)) (returns-in-Ok-false-clause-reads c)
+
 pub returns-in-Ok-false-clause-back : goal.returns-in-Ok-false-clause-back
 returns-in-Ok-false-clause-back c = reads_back c.args.clumps c.args.bytes.now (Err (Bad c.in-Some-checked_add.number)) (returns-in-Ok-false-clause-reads c)
 
-pub returns-in-Some-finish-clause-back : goal.returns-in-Some-finish-clause-back
-returns-in-Some-finish-clause-back c =
+pub returns-in-Some-finish-clause-reads : goal.returns-in-Some-finish-clause-reads
+returns-in-Some-finish-clause-reads c =
     let inv = c.loop-row.invariant in
     let s = rw c.in-None.is at ((c.next.ensures.steps inv.2 inv.0).0 inv.1) in
     let ends = rows-end (λ (s : Bor (List ℕ)). Some s.now) c.loop-row.row-iterator.rdr c.next.new.self.rdr [] default_config inv.4 inv.3 inv.5 s in
-    reads_back c.args.clumps c.args.bytes.now (Ok c.in-Some-finish.state)
     (inv.6, (c.loop-row.row-iterator.rdr.state, inv.4, inv.7, ends), c.loop-row.frame, inv.8, sym c.finish.ensures ∙ c.in-Some-finish.is)
 
-pub returns-in-None-finish-clause-back : goal.returns-in-None-finish-clause-back
-returns-in-None-finish-clause-back c =
+pub returns-in-Some-finish-clause-value : goal.returns-in-Some-finish-clause-value
+returns-in-Some-finish-clause-value c = frame_value c.args.clumps c.args.bytes.now (Ok c.in-Some-finish.state) (returns-in-Some-finish-clause-reads c)
+
+pub returns-in-Some-finish-clause-back : goal.returns-in-Some-finish-clause-back
+returns-in-Some-finish-clause-back c = reads_back c.args.clumps c.args.bytes.now (Ok c.in-Some-finish.state) (returns-in-Some-finish-clause-reads c)
+
+pub returns-in-None-finish-clause-reads : goal.returns-in-None-finish-clause-reads
+returns-in-None-finish-clause-reads c =
     let inv = c.loop-row.invariant in
     let s = rw c.in-None.is at ((c.next.ensures.steps inv.2 inv.0).0 inv.1) in
     let ends = rows-end (λ (s : Bor (List ℕ)). Some s.now) c.loop-row.row-iterator.rdr c.next.new.self.rdr [] default_config inv.4 inv.3 inv.5 s in
-    reads_back c.args.clumps c.args.bytes.now (Err (Short c.loop-row.rows))
     (inv.6, (c.loop-row.row-iterator.rdr.state, inv.4, inv.7, ends), c.loop-row.frame, inv.8, sym c.finish.ensures ∙ c.in-None-finish.is, inv.9)
+
+pub returns-in-None-finish-clause-value : goal.returns-in-None-finish-clause-value
+returns-in-None-finish-clause-value c = frame_value c.args.clumps c.args.bytes.now (Err (Short c.loop-row.rows)) (returns-in-None-finish-clause-reads c)
+
+pub returns-in-None-finish-clause-back : goal.returns-in-None-finish-clause-back
+returns-in-None-finish-clause-back c = reads_back c.args.clumps c.args.bytes.now (Err (Short c.loop-row.rows)) (returns-in-None-finish-clause-reads c)

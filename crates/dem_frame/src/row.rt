@@ -13,7 +13,7 @@ use itoa::{Buffer, Integer};
 pub struct WriteFault;
 
 /// The longest row has 300 bytes: `clump`, 14 numbers of at most 20 bytes, each behind a comma, and a newline.
-const ROW_ROOM: usize = 320;
+pub const ROW_ROOM: usize = 320;
 
 /// The most numbers of a row.
 pub(crate) const MAX_NUMBERS: usize = 14;
@@ -21,18 +21,19 @@ pub(crate) const MAX_NUMBERS: usize = 14;
 /// The longest name of a row: `end,domain`.
 const MAX_NAME: usize = 10;
 
-type RowText = ArrayVec<u8, ROW_ROOM>;
+/// A row that is being built.
+pub type RowText = ArrayVec<u8, ROW_ROOM>;
 
-// Appends these bytes to the row.
-fn add(row: &mut RowText, bytes: &[u8])
+/// Appends these bytes to the row.
+pub fn add(row: &mut RowText, bytes: &[u8])
     requires { length row.old.items + length bytes.now ≤ ROW_ROOM }
     ensures { row.new.items ≡ row.old.items ++ bytes.now }
 {
     row.try_extend_from_slice(bytes).unwrap();
 }
 
-// Appends a comma and the number.
-fn add_number<I: Integer>(row: &mut RowText, number: I)
+/// Appends a comma and the number.
+pub fn add_number<I: Integer>(row: &mut RowText, number: I)
     requires { length row.old.items + 1 + I.MAX_STR_LEN ≤ ROW_ROOM }
     ensures text { row.new.items ≡ row.old.items ++ codes "," ++ I.text number }
     ensures size { length row.new.items ≤ length row.old.items + 1 + I.MAX_STR_LEN }
@@ -42,8 +43,8 @@ fn add_number<I: Integer>(row: &mut RowText, number: I)
     add(row, digits.format(number).as_bytes());
 }
 
-// Ends the row and puts it.
-fn put<K: Sink>(out: &mut K, mut row: RowText) -> Result<(), WriteFault>
+/// Ends the row and puts it.
+pub fn put<K: Sink>(out: &mut K, mut row: RowText) -> Result<(), WriteFault>
     requires { length row.items + 1 ≤ ROW_ROOM }
     ensures count { Counts (K.faults out.old) (K.faults out.new) result }
     ensures written { PutAppends (K.held out.old) (K.held out.new) result (row.items ++ codes "\n") }

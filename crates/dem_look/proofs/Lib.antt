@@ -1,0 +1,9 @@
+pub mod HeldFacts
+pub mod FlagFacts
+pub mod CountFacts
+pub mod MotionFacts
+pub mod RowFacts
+pub mod SeenFacts
+pub mod DueFacts
+pub mod LookFacts
+pub mod LoopFacts

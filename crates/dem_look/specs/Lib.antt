@@ -1,0 +1,3 @@
+pub mod Looker
+pub mod Inside
+pub mod Looking

@@ -7,7 +7,7 @@ use Rattle.dem_model.specs.SceneValue.{SceneValue}
 use Rattle.dem_model.specs.Pairs.{sphere_count, pair_of}
 use Rattle.dem_model.specs.declared.state.Pair.{Pair}
 use Rattle.dem_margin.specs.NearList.{pair_if_near}
-use Rattle.dem_bins.specs.Blocks.{block_at, IsBlock}
+use Rattle.dem_bins.specs.Blocks.{block_at, beside, IsBlock}
 use Rattle.dem_bins.specs.Keys.{column_of, column_in, key_of, sphere_in, IsKey}
 use Rattle.dem_bins.specs.declared.blocks.Block.{Block}
 
@@ -15,9 +15,9 @@ use Rattle.dem_bins.specs.declared.blocks.Block.{Block}
 unfoldable pub end_of : List Block → ℕ → ℕ
 end_of bs e = key_of (column_in e) ((block_at bs (sphere_in e)).z.high + 1) 0
 
--- whether a key comes after another, in its column and no higher than its sphere, and is of another sphere
+-- whether a key comes after another, in its column and no higher than its sphere, is of another sphere, and their boxes meet there
 unfoldable pub meets : List Block → ℕ → ℕ → Bool
-meets bs e d = nat_lt e d && nat_lt d (end_of bs e) && not (sphere_in e == sphere_in d)
+meets bs e d = nat_lt e d && nat_lt d (end_of bs e) && not (sphere_in e == sphere_in d) && beside (block_at bs (sphere_in e)) (block_at bs (sphere_in d))
 
 -- the first of the columns that two blocks both meet
 unfoldable pub first_column : Block → Block → ℕ

@@ -17,7 +17,7 @@ ghost use Rattle.dem_bins.specs.Walk.{
 ghost use Rattle.dem_model.specs.Pairs.{sphere_count};
 ghost use Rattle.dem_bins.specs.Blocks.{IsBlock};
 
-use crate::blocks::Block;
+use crate::blocks::{Block, are_beside};
 use crate::keys::{column, column_of_key, key, sphere_of};
 use dem_list::RawPairs;
 use dem_margin::add_near;
@@ -92,8 +92,8 @@ fn end_after(blocks: &[Block], first: u128) -> u128
     key(column_of_key(first), high + 1, 0)
 }
 
-/// Adds the pair of two keys in the first column that both spheres meet, if it is apart and near. A sphere has one key a column, so
-/// that two keys here are never of one sphere.
+/// Adds the pair of two keys in the first column that both spheres meet, if it is apart and near; spheres whose boxes don't meet
+/// are passed over untested. A sphere has one key a column, so that two keys here are never of one sphere.
 #[tactic(auto, unfolding(crate::specs::Walk::met, crate::specs::Walk::meets, crate::specs::Walk::visited, crate::specs::Walk::pair_in))]
 fn visit<L: Ledger>(
     raw: &mut RawPairs,
@@ -121,6 +121,9 @@ fn visit<L: Ledger>(
     let a = sphere_of(first);
     let b = sphere_of(second);
     if a == b {
+        return Ok(());
+    }
+    if !are_beside(&blocks[a as usize], &blocks[b as usize]) {
         return Ok(());
     }
     tests.tick();

@@ -1,10 +1,10 @@
-use Rattle.std.proofs.Common.{ℕ, ◌≡◌, ◌+◌, ◌*◌, ◌<◌, ◌≤◌, ◌++◌, List, [], length, ◌∙◌, sym, ap, ap₂, arith, subst}
+use Rattle.std.proofs.Common.{ℕ, ◌≡◌, ◌*◌, ◌≤◌, ◌++◌, List, length, ◌∙◌, sym, ap, ap₂, arith}
 use Rattle.std.proofs.lemmas.List.{length-append}
 use Rattle.std.proofs.lemmas.Nat.{mul-le}
 use Rattle.std.proofs.lemmas.Result.{on_ok_weaker}
 use Rattle.dem_model.specs.Pairs.{sphere_count}
 use Rattle.dem_model.specs.declared.state.Pair.{Pair}
-use Rattle.dem_bins.specs.Walk.{rows_of, rows_visits, walls_found}
+use Rattle.dem_bins.specs.Walk.{rows_of, walls_found}
 use Rattle.dem_bins.proofs.PlanFacts.{IsPlan, plan-blocks, plan-keys, plan-room, plan-counted, plan-found, plan-read}
 use Rattle.dem_bins.proofs.building.add_pairs.Goals as goal
 

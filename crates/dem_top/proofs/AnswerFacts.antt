@@ -122,6 +122,8 @@ module _ (job : Job) (source out note : Change) (taken : Takes job.limit source)
     not_done refusals.NoPack e = cc
     not_done refusals.NoRow e = cc
     not_done (refusals.Pack fault) e = cc
+    not_done refusals.NoFrame e = cc
+    not_done (refusals.Frame fault) e = cc
 
     not_four : (r : Refusal) → refusal_status r ≡ 4 → ⊥
     not_four refusals.Usage e = cc
@@ -132,6 +134,8 @@ module _ (job : Job) (source out note : Change) (taken : Takes job.limit source)
     not_four refusals.NoPack e = cc
     not_four refusals.NoRow e = cc
     not_four (refusals.Pack fault) e = cc
+    not_four refusals.NoFrame e = cc
+    not_four (refusals.Frame fault) e = cc
 
     not_five : (r : Refusal) → refusal_status r ≡ 5 → ⊥
     not_five refusals.Usage e = cc
@@ -142,6 +146,8 @@ module _ (job : Job) (source out note : Change) (taken : Takes job.limit source)
     not_five refusals.NoPack e = cc
     not_five refusals.NoRow e = cc
     not_five (refusals.Pack fault) e = cc
+    not_five refusals.NoFrame e = cc
+    not_five (refusals.Frame fault) e = cc
 
     not_cut : (r : Refusal) → IsCutShort (refusal_status r) → ⊥
     not_cut refusals.Usage e = cc
@@ -152,6 +158,8 @@ module _ (job : Job) (source out note : Change) (taken : Takes job.limit source)
     not_cut refusals.NoPack e = cc
     not_cut refusals.NoRow e = cc
     not_cut (refusals.Pack fault) e = cc
+    not_cut refusals.NoFrame e = cc
+    not_cut (refusals.Frame fault) e = cc
 
     few : (r : Refusal) → refusal_status r ≤ 7
     few refusals.Usage = omega arith
@@ -162,6 +170,8 @@ module _ (job : Job) (source out note : Change) (taken : Takes job.limit source)
     few refusals.NoPack = omega arith
     few refusals.NoRow = omega arith
     few (refusals.Pack fault) = omega arith
+    few refusals.NoFrame = omega arith
+    few (refusals.Frame fault) = omega arith
 
   -- a read failed, and its line was put
   pub answer-unread : Fails source → IsKept out → Gains note read_failed_text → IsCalm out → IsCalm note → Answers job source out note 4

@@ -1,8 +1,6 @@
 -- Rows compared with an output: the first difference, and what a comparison comes to.
-use Rattle.std.proofs.Common.{◌≡◌, ℕ, zero, suc, Bool, true, false, List, [], ◌∷◌, take, Option, None, Some, Ok, Err, inl, refl, sym, ap, ◌∙◌, subst}
-use Rattle.std.specs.Str.{bytes_eq}
+use Rattle.std.proofs.Common.{◌≡◌, ℕ, zero, suc, List, [], ◌∷◌, take, Option, None, Some, Ok, Err, inl, refl, sym, ap, ◌∙◌, subst}
 use Rattle.std.proofs.KnownBytes.{Appends-nil}
-use Rattle.std.proofs.lemmas.Slice.Eq.{bytes_eq-Decides}
 use Rattle.dem_outside.specs.Change.{Stream, Change, IsCalm, Gains, GainsPrefix, Fails}
 use Rattle.dem_outside.proofs.Prefixes.{AppendsPrefix-nil}
 use Rattle.dem_model.specs.SceneValue.{SceneValue}
@@ -18,16 +16,7 @@ use Rattle.dem_top.specs.Verdicts.{Written, no_rows, on_scene}
 use Rattle.dem_top.specs.Compared.{difference_of, difference_text, compared, verdict_text, verdict_outcome}
 use Rattle.dem_top.specs.Refusals.{outcome_status}
 use Rattle.dem_top.specs.Parts.{Comes, idle}
-
--- bytes are the same exactly where their test says so
-same_bytes : (xs ys : List ℕ) → xs ≡ ys → bytes_eq xs ys ≡ true
-same_bytes xs ys same = (bytes_eq-Decides xs ys).1 same
-
-other_bytes : (xs ys : List ℕ) → (xs ≡ ys → ⊥) → bytes_eq xs ys ≡ false
-other_bytes xs ys other = by (bytes_eq xs ys) (bytes_eq-Decides xs ys) where
-  by : (b : Bool) → (b ≡ true → xs ≡ ys) × (xs ≡ ys → b ≡ true) → b ≡ false
-  by true d = absurd (other (d.0 refl))
-  by false d = refl
+use Rattle.dem_top.proofs.MarkFacts.{same_bytes, other_bytes}
 
 -- a list of rows differs nowhere from itself
 pub difference-none : (xs : List (List ℕ)) → difference_of xs xs ≡ None

@@ -66,7 +66,7 @@ module _ (mark missing : List ℕ) (f : Meaning) where
   too-long bytes long = let e = lt-ltb MAX_INPUT (length bytes) long in rw e refl
 
   -- one that isn't comes to what its mark says
-  fits-input : (bytes : List ℕ) → length bytes ≤ MAX_INPUT → parted mark missing f bytes ≡ by_mark mark missing f bytes (mark_in mark bytes)
+  pub fits-input : (bytes : List ℕ) → length bytes ≤ MAX_INPUT → parted mark missing f bytes ≡ by_mark mark missing f bytes (mark_in mark bytes)
   unfolding parted
   fits-input bytes short = let e = le-ltb MAX_INPUT (length bytes) short in rw e refl
 
@@ -87,6 +87,8 @@ module _ (mark missing : List ℕ) (f : Meaning) where
   input-undone source out note (stops.Refused refusals.NoPack) read = absurd read
   input-undone source out note (stops.Refused refusals.NoRow) read = absurd read
   input-undone source out note (stops.Refused (refusals.Pack fault)) read = absurd read
+  input-undone source out note (stops.Refused refusals.NoFrame) read = absurd read
+  input-undone source out note (stops.Refused (refusals.Frame fault)) read = absurd read
   input-undone source out note stops.ReadFailed read = (read, Keeps-refl out.bytes, Keeps-refl note.bytes, refl, refl)
   input-undone source out note stops.WriteFailed read = absurd read
   input-undone source out note stops.OutOfMemory read =
@@ -115,3 +117,8 @@ pub scene-bad : (f : SceneValue → Verdict) (text : List ℕ) (out note : Strea
     → Comes (on_scene f (scene_from text)) (idle out) (idle note) (Err (scene_stop fault))
 scene-bad f text out note scenes.OutOfMemory fails = (begins-nothing (on_scene f (scene_from text)) out note, refl, refl)
 scene-bad f text out note fault fails = (ap (on_scene f) fails, Keeps-refl out.bytes, Keeps-refl note.bytes, refl, refl)
+
+-- there is a scene before the mark, and this came of it
+pub scene-good : (f : SceneValue → Verdict) (text : List ℕ) (s : SceneValue) → scene_from text ≡ Ok s → (out : Change) (note : Stream) (result : Result Outcome NotDone) → Comes (f s) out (idle note) result
+    → Comes (on_scene f (scene_from text)) out (idle note) result
+scene-good f text s is out note result comes = subst (λ r. Comes (on_scene f r) out (idle note) result) (sym is) comes

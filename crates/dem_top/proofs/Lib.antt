@@ -8,6 +8,8 @@ pub mod StandFacts
 pub mod ThreadFacts
 pub mod ListsFacts
 pub mod InputFacts
+pub mod MarkFacts
 pub mod ComparedFacts
 pub mod PackedFacts
+pub mod ResumedFacts
 pub mod SummaryFacts

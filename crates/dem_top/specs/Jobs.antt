@@ -10,8 +10,9 @@ use Rattle.dem_top.specs.declared.reading.TheConstants.{MAX_INPUT}
 use Rattle.dem_top.specs.Marks.{Meaning, parted}
 use Rattle.dem_top.specs.Compared.{check_verdict}
 use Rattle.dem_top.specs.Packed.{pack_verdict}
+use Rattle.dem_top.specs.Resumed.{resume_verdict}
 use Rattle.dem_top.specs.Summaries.{gen_verdict}
-use Rattle.dem_top.specs.Verdicts.{Verdict, Refused, usage_text, plain_verdict, sched_verdict, threads_verdict}
+use Rattle.dem_top.specs.Verdicts.{Verdict, Refused, usage_text, plain_verdict, sched_verdict, threads_verdict, look_verdict}
 
 -- what is asked for
 pub record Job : Type 0 where
@@ -32,6 +33,10 @@ sched_job o = record { limit = Some MAX_TEXT; verdict = sched_verdict o }
 abbrev pub run_job : OrderValue → Job
 run_job o = record { limit = Some MAX_TEXT; verdict = threads_verdict o }
 
+-- what is seen of the run of a scene
+abbrev pub look_job : Job
+look_job = record { limit = Some MAX_TEXT; verdict = look_verdict }
+
 -- a scene and more, parted by this mark
 abbrev pub parted_job : (mark missing : List ℕ) → Meaning → Job
 parted_job mark missing f = record { limit = Some MAX_INPUT; verdict = parted mark missing f }
@@ -48,19 +53,23 @@ gen_job o = record { limit = None; verdict = λ _. gen_verdict o }
 abbrev pub pack_job : OrderValue → Job
 pack_job o = record { limit = Some MAX_INPUT; verdict = pack_verdict o.count }
 
+-- the run of a scene from a frame on
+abbrev pub resume_job : Job
+resume_job = record { limit = Some MAX_INPUT; verdict = resume_verdict }
+
 -- a faulty command line: nothing is read
 abbrev pub usage_job : Job
 usage_job = record { limit = None; verdict = λ _. Refused 1 usage_text }
 
--- what an order of this mode asks for; a mode that isn't built is a faulty command line
+-- what an order of this mode asks for
 abbrev pub job_in : Mode → OrderValue → Job
 job_in modes.Plain o = plain_job
 job_in modes.Sched o = sched_job o
 job_in modes.Run o = run_job o
 job_in modes.Check o = check_job
 job_in modes.Gen o = gen_job o
-job_in modes.Resume o = usage_job
-job_in modes.Look o = usage_job
+job_in modes.Resume o = resume_job
+job_in modes.Look o = look_job
 job_in modes.Pack o = pack_job o
 
 -- what an order asks for

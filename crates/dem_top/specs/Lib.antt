@@ -3,6 +3,7 @@ pub mod Verdicts
 pub mod Marks
 pub mod Compared
 pub mod Packed
+pub mod Resumed
 pub mod Summaries
 pub mod Jobs
 pub mod Answers

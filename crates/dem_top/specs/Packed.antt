@@ -1,5 +1,5 @@
 -- What `pack` makes of its input: the scene before the mark, with the clumps that the row behind it asks for.
-use Rattle.std.specs.Prelude.{ℕ, List, [], ◌++◌, codes, decimal, Option, None, Some, Result, Ok, Err}
+use Rattle.std.specs.Prelude.{ℕ, List, [], ◌++◌, codes, Option, None, Some, Result, Ok, Err}
 use Rattle.serde_json.specs.Data.{Data}
 use Rattle.serde_json.specs.Written.{compact_text}
 use Rattle.dem_model.specs.SceneValue.{SceneValue}
@@ -12,7 +12,7 @@ use Rattle.dem_pack.specs.Rows.{ask_of}
 use Rattle.dem_pack.specs.declared.ask.Ask.{Ask}
 use Rattle.dem_pack.specs.declared.ask.PackFault.{PackFault}
 use Rattle.dem_pack.specs.declared.ask.PackFault.TheVariants as faults
-use Rattle.dem_top.specs.Verdicts.{Verdict, Refused, Written, no_rows}
+use Rattle.dem_top.specs.Verdicts.{Verdict, Refused, Written, no_rows, numbered}
 use Rattle.dem_top.specs.Marks.{parted}
 
 -- the line between a scene and its row
@@ -30,8 +30,8 @@ abbrev pub no_row_text : List ℕ
 no_row_text = codes "pack: row\n"
 
 -- the line of a region with too few cells
-unfoldable pub room_text : ℕ → List ℕ
-room_text cells = codes "pack: room " ++ decimal cells ++ codes "\n"
+abbrev pub room_text : ℕ → List ℕ
+room_text cells = numbered (codes "pack: room ") cells
 
 -- the line of a packing that is refused; want of memory is no fault of the input and has none
 abbrev pub pack_text : PackFault → List ℕ

@@ -16,6 +16,12 @@ use Rattle.dem_core.specs.declared.did.WorldStop.{WorldStop}
 use Rattle.dem_core.specs.declared.did.WorldStop.TheVariants as worlds
 use Rattle.dem_pack.specs.declared.ask.PackFault.{PackFault}
 use Rattle.dem_pack.specs.declared.ask.PackFault.TheVariants as packs
+use Rattle.dem_save.specs.declared.fault.SaveFault.{SaveFault}
+use Rattle.dem_save.specs.declared.fault.SaveFault.TheVariants as saves
+use Rattle.dem_save.specs.declared.fault.RestFault.{RestFault}
+use Rattle.dem_save.specs.declared.fault.RestFault.TheVariants as rests
+use Rattle.dem_look.specs.declared.looking.LookFault.{LookFault}
+use Rattle.dem_look.specs.declared.looking.LookFault.TheVariants as looks
 use Rattle.dem_model.specs.Plain.{last_of}
 use Rattle.dem_model.specs.Output.{output_of}
 use Rattle.dem_model.specs.declared.state.Turn.{Turn}
@@ -62,6 +68,21 @@ world_stop worlds.OutOfMemory = stops.OutOfMemory
 abbrev pub pack_stop : PackFault → NotDone
 pack_stop packs.OutOfMemory = stops.OutOfMemory
 pack_stop fault = stops.Refused (refusals.Pack fault)
+
+-- a frame that is refused; no memory is no fault of the input
+abbrev pub save_stop : SaveFault → NotDone
+save_stop saves.OutOfMemory = stops.OutOfMemory
+save_stop fault = stops.Refused (refusals.Frame fault)
+
+-- a put that failed, or no memory for the run from a frame on
+abbrev pub rest_stop : RestFault → NotDone
+rest_stop rests.WriteFault = stops.WriteFailed
+rest_stop rests.OutOfMemory = stops.OutOfMemory
+
+-- a put that failed, or no memory for what is seen
+abbrev pub look_stop : LookFault → NotDone
+look_stop looks.WriteFault = stops.WriteFailed
+look_stop looks.OutOfMemory = stops.OutOfMemory
 
 -- why a run by two threads stopped, said as of one by turns
 abbrev pub stop_by : RunFault → WorldStop

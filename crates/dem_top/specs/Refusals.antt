@@ -3,10 +3,11 @@ use Rattle.std.specs.Prelude.{ℕ, List}
 use Rattle.dem_model.specs.ReadingFaults.{fault_text}
 use Rattle.dem_top.specs.Verdicts.{usage_text, bin_text, too_long_text, no_frames_text}
 use Rattle.dem_top.specs.Packed.{no_pack_text, no_row_text, pack_text}
+use Rattle.dem_top.specs.Resumed.{no_frame_text, save_text}
 use Rattle.dem_top.specs.declared.outcome.Outcome.{Outcome}
 use Rattle.dem_top.specs.declared.outcome.Outcome.TheVariants.{Reached, Passed, Differs}
 use Rattle.dem_top.specs.declared.refusal.Refusal.{Refusal}
-use Rattle.dem_top.specs.declared.refusal.Refusal.TheVariants.{Usage, Scene, Bin, TooLong, NoFrames, NoPack, NoRow, Pack}
+use Rattle.dem_top.specs.declared.refusal.Refusal.TheVariants.{Usage, Scene, Bin, TooLong, NoFrames, NoPack, NoRow, Pack, NoFrame, Frame}
 
 -- the status of a job that was done
 abbrev pub outcome_status : Outcome → ℕ
@@ -24,6 +25,8 @@ refusal_status NoFrames = 2
 refusal_status NoPack = 2
 refusal_status NoRow = 2
 refusal_status (Pack fault) = 2
+refusal_status NoFrame = 2
+refusal_status (Frame fault) = 2
 
 -- the line of a refusal
 abbrev pub refusal_text : Refusal → List ℕ
@@ -35,3 +38,5 @@ refusal_text NoFrames = no_frames_text
 refusal_text NoPack = no_pack_text
 refusal_text NoRow = no_row_text
 refusal_text (Pack fault) = pack_text fault
+refusal_text NoFrame = no_frame_text
+refusal_text (Frame fault) = save_text fault

@@ -13,6 +13,7 @@ use Rattle.dem_model.specs.ReadingScene.{scene_from}
 use Rattle.dem_model.specs.ReadingFaults.{fault_text}
 use Rattle.dem_model.specs.Plain.{last_of}
 use Rattle.dem_model.specs.Output.{output_of}
+use Rattle.dem_model.specs.Look.{looked_at}
 
 -- which rows a job may put on `note`
 pub data Notes : Type 0 where
@@ -74,13 +75,17 @@ usage_text = codes "usage: dem MODE [--drift N] [--bin N] [--turns T] [--seed N]
 abbrev pub read_failed_text : List ℕ
 read_failed_text = codes "read failed\n"
 
--- the line of an input of `check` or `pack` that is too long
+-- the line of an input of a scene and more that is too long
 abbrev pub too_long_text : List ℕ
 too_long_text = codes "input: longer than 268435456 bytes\n"
 
 -- the line of an input of `check` without a line between its scene and its rows
 abbrev pub no_frames_text : List ℕ
 no_frames_text = codes "frames: missing\n"
+
+-- a line that ends with a number
+unfoldable pub numbered : List ℕ → ℕ → List ℕ
+numbered name n = name ++ decimal n ++ codes "\n"
 
 -- the line of a side of bins that is too small
 unfoldable pub bin_text : ℕ → List ℕ
@@ -105,6 +110,14 @@ on_scene f (Err fault) = Refused 2 (fault_text fault)
 -- the plain run
 unfoldable pub plain_verdict : List ℕ → Verdict
 plain_verdict bytes = on_scene (run_verdict no_rows) (scene_from bytes)
+
+-- what is seen of the run of this scene, and how it ends
+abbrev pub looks_of : SceneValue → Verdict
+looks_of s = Written (run_status (last_of s)) (looked_at s) no_rows
+
+-- what is seen of the plain run
+unfoldable pub look_verdict : List ℕ → Verdict
+look_verdict bytes = on_scene looks_of (scene_from bytes)
 
 -- a grid of bins is needed whose spheres may meet so many cells on an axis: it is refused above 8
 abbrev pub on_grid : ℕ → Verdict → Verdict

@@ -2,7 +2,7 @@
 ghost use Rattle.std.specs.Prelude.{◌≡◌};
 ghost use Rattle.dem_outside.specs.Change.{change};
 ghost use Rattle.dem_top.specs.Refusals.{outcome_status as outcome_status_of};
-ghost use Rattle.dem_top.specs.Parts.{read_stop, scene_stop, run_stop, bin_stop, pack_stop, world_stop, run_outcome, Tells};
+ghost use Rattle.dem_top.specs.Parts.{read_stop, scene_stop, run_stop, bin_stop, pack_stop, save_stop, rest_stop, look_stop, world_stop, run_outcome, Tells};
 ghost use Rattle.dem_top.specs.declared.outcome.NotDone.TheVariants as stops;
 
 use crate::reading::ReadFault;
@@ -10,10 +10,12 @@ use crate::refusal::{Refusal, put_line, refuse};
 use crate::status::{OUT_OF_MEMORY, READ_FAILED, WRITE_FAILED};
 use dem_bins::BinTooSmall;
 use dem_core::WorldStop;
+use dem_look::LookFault;
 use dem_model::{Last, OutOfMemory};
 use dem_output::RunFault;
 use dem_outside::{Failed, Sink};
 use dem_pack::PackFault;
+use dem_save::{RestFault, SaveFault};
 use dem_scene::SceneFault;
 
 /// How a job ended that was done.
@@ -95,6 +97,39 @@ impl From<PackFault> for NotDone {
         match fault {
             PackFault::OutOfMemory => NotDone::OutOfMemory,
             _ => NotDone::Refused(Refusal::Pack(fault)),
+        }
+    }
+}
+
+impl From<SaveFault> for NotDone {
+    ghost from_gives = { λ f s. s ≡ save_stop f };
+
+    fn from(fault: SaveFault) -> NotDone {
+        match fault {
+            SaveFault::OutOfMemory => NotDone::OutOfMemory,
+            _ => NotDone::Refused(Refusal::Frame(fault)),
+        }
+    }
+}
+
+impl From<RestFault> for NotDone {
+    ghost from_gives = { λ f s. s ≡ rest_stop f };
+
+    fn from(fault: RestFault) -> NotDone {
+        match fault {
+            RestFault::WriteFault => NotDone::WriteFailed,
+            RestFault::OutOfMemory => NotDone::OutOfMemory,
+        }
+    }
+}
+
+impl From<LookFault> for NotDone {
+    ghost from_gives = { λ f s. s ≡ look_stop f };
+
+    fn from(fault: LookFault) -> NotDone {
+        match fault {
+            LookFault::WriteFault => NotDone::WriteFailed,
+            LookFault::OutOfMemory => NotDone::OutOfMemory,
         }
     }
 }

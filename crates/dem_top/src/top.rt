@@ -8,11 +8,13 @@ ghost use Rattle.dem_top.specs.Parts.{Does};
 ghost use Rattle.dem_top.specs.Answers.{Answers};
 
 use crate::comparison::compare;
+use crate::looking::inspect;
 use crate::made::summarize;
 use crate::outcome::{NotDone, Outcome, tell};
 use crate::packing::fill;
 use crate::plain::plain;
 use crate::refusal::{Refusal, refuse};
+use crate::resuming::resume;
 use crate::run::run;
 use crate::sched::sched;
 use crate::status::OUT_OF_MEMORY;
@@ -132,6 +134,8 @@ fn carry_out<S: Source, K: Sink, N: Sink>(
         Mode::Check => compare(alloc, source, out),
         Mode::Gen => summarize(alloc, order, out),
         Mode::Pack => fill(alloc, order, source, out),
-        Mode::Run | Mode::Resume | Mode::Look => Err(NotDone::Refused(Refusal::Usage)),
+        Mode::Resume => resume(alloc, source, out),
+        Mode::Look => inspect(alloc, source, out),
+        Mode::Run => Err(NotDone::Refused(Refusal::Usage)),
     }
 }

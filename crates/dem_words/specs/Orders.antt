@@ -1,8 +1,7 @@
 -- An order as contracts see it, and its ranges.
-use Rattle.std.specs.Prelude.{◌≡◌, ℕ, ◌≤◌, ◌<◌, ◌^◌, Bool, true, List}
+use Rattle.std.specs.Prelude.{ℕ, ◌≤◌, ◌<◌, ◌^◌, Bool, List}
 use Rattle.dem_model.specs.declared.state.Turn.{Turn}
 use Rattle.dem_words.specs.declared.order.Mode.{Mode}
-use Rattle.dem_words.specs.Values.{is_built}
 
 -- all that a command line asks for
 pub record OrderValue : Type 0 where
@@ -15,9 +14,8 @@ pub record OrderValue : Type 0 where
   pub report : Bool
   pub split : Bool
 
--- the mode is built, and the numbers are in their ranges
+-- the numbers are in their ranges
 pub record IsOrder (o : OrderValue) : Type 0 where
-  pub mode : is_built o.mode ≡ true
   pub drift : o.drift ≤ 1024
   pub bin : o.bin ≤ 2 ^ 38
   pub seed : o.seed < 2 ^ 64

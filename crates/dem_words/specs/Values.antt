@@ -1,5 +1,5 @@
 -- How the values of the command line are read.
-use Rattle.std.specs.Prelude.{ℕ, ◌≤◌, Bool, true, ◌&&◌, ◌==◌, false, List, [], ◌∷◌, length, codes, Option, Some, None, if◌then◌else◌, nat_lt, nat_le, option_and_then}
+use Rattle.std.specs.Prelude.{ℕ, ◌≤◌, Bool, ◌&&◌, ◌==◌, List, [], ◌∷◌, length, codes, Option, Some, None, if◌then◌else◌, nat_lt, nat_le, option_and_then}
 use Rattle.std.specs.List.{list_all}
 use Rattle.std.specs.Char.{is_ascii_digit}
 use Rattle.std.specs.Str.{bytes_eq}
@@ -66,19 +66,8 @@ mode_from text =
     else (if bytes_eq text (codes "resume") then Some modes.Resume
     else (if bytes_eq text (codes "look") then Some modes.Look else (if bytes_eq text (codes "pack") then Some modes.Pack else None)))))))
 
--- whether the program has this mode
-unfoldable pub is_built : Mode → Bool
-is_built modes.Plain = true
-is_built modes.Sched = true
-is_built modes.Run = true
-is_built modes.Check = true
-is_built modes.Gen = true
-is_built modes.Pack = true
-is_built mode = false
-
--- the mode that is named, where the program has it
+-- the mode that is named
 unfoldable pub mode_at : Text → List Row → Option Mode
 mode_at name rows = do
   text ← first_of name rows
-  mode ← mode_from text
-  if is_built mode then Some mode else None
+  mode_from text

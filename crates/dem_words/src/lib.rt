@@ -2,7 +2,7 @@
 //!
 //! `read_words` gives the order that the words have, or says that they are no good. Means: `words_of` of specs, over what the
 //! command makes of the words. Callers rest on: Ok has that very order, Usage comes exactly where there is none; each order
-//! is within its ranges and of a mode that is built. Takes memory: `read_words`. Not here: what a mode does (dem_top).
+//! is within its ranges. Takes memory: `read_words`. Not here: what a mode does (dem_top).
 #![tactic(auto)]
 
 mod command;

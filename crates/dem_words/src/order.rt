@@ -28,15 +28,15 @@ pub enum Mode {
     Check,
     /// A summary of the run of a made scene.
     Gen,
-    /// A run that goes on from a frame.
+    /// A run that goes on from a frame of its output.
     Resume,
-    /// Values over the frames of a run.
+    /// A row of values for each frame of a run.
     Look,
     /// A packing.
     Pack,
 }
 
-/// All that a command line asks for. Each Order's numbers are in their ranges, and its mode is built.
+/// All that a command line asks for. Each Order's numbers are in their ranges.
 #[derive(Drop)]
 pub struct Order {
     pub mode: Mode,

@@ -1,28 +1,24 @@
 //! What is read of the command's matches: a mode, numbers, turns, flags.
-ghost use Rattle.std.specs.Prelude.{◌≡◌, ◌≤◌, IfOk, true};
+ghost use Rattle.std.specs.Prelude.{◌≡◌, ◌≤◌, IfOk};
 ghost use Rattle.clap.specs.Words.{found_of, rows_of};
 ghost use Rattle.dem_words.specs.CommandLine.{has_flag as has_flag_of};
 ghost use Rattle.dem_words.specs.Meaning.{Reads};
-ghost use Rattle.dem_words.specs.Values.{is_built as is_built_of, mode_at as mode_of, number_at as number_of, turns_at as turns_of};
+ghost use Rattle.dem_words.specs.Values.{mode_at as mode_of, number_at as number_of, turns_at as turns_of};
 
 use crate::order::{Mode, WordFault};
-use crate::value::{is_built, mode_from, number_from, turns_from};
+use crate::value::{mode_from, number_from, turns_from};
 use clap::ArgMatches;
 use dem_model::{List, Turn};
 use std::alloc::Global;
 
-/// The mode that is named, where the program has it.
+/// The mode that is named.
 #[tactic(auto, using(crate::proofs::MatchFacts::first_value_is), unfolding(crate::specs::Values::mode_at))]
 pub(crate) fn mode_at(matches: &ArgMatches, name: &str) -> Result<Mode, WordFault>
-    ensures value { Reads (mode_of name.now (rows_of (found_of matches.now))) result }
-    ensures built { IfOk result (λ mode. is_built_of mode ≡ true) }
+    ensures { Reads (mode_of name.now (rows_of (found_of matches.now))) result }
 {
-    let Some(text) = matches.get_str(name) else {
-        return Err(WordFault::Usage);
-    };
-    match mode_from(text) {
-        Some(mode) if is_built(mode) => Ok(mode),
-        _ => Err(WordFault::Usage),
+    match matches.get_str(name) {
+        Some(text) => mode_from(text).ok_or(WordFault::Usage),
+        None => Err(WordFault::Usage),
     }
 }
 

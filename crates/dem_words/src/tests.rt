@@ -98,13 +98,11 @@ fn refuses_a_wrong_value(rt: HostRuntime) -> Result<(), Fail> {
     for words in [
         ["dem", "fly"].as_slice(),
         ["dem", "Plain"].as_slice(),
-        ["dem", "look"].as_slice(),
         ["dem", "sched", "--drift", "1025"].as_slice(),
         ["dem", "sched", "--drift", "+7"].as_slice(),
         ["dem", "sched", "--drift="].as_slice(),
         ["dem", "sched", "--bin", "274877906945"].as_slice(),
         ["dem", "sched", "--turns", "px"].as_slice(),
-        ["dem", "resume"].as_slice(),
         ["dem", "sched", "--seed", "18446744073709551616"].as_slice(),
         ["dem", "sched", "--count", "0"].as_slice(),
         ["dem", "sched", "--count", "16385"].as_slice(),

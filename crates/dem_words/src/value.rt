@@ -1,7 +1,7 @@
 //! The readers of values: numbers, turns, modes.
 ghost use Rattle.std.specs.Prelude.{◌≡◌, ◌≤◌, ℕ, IfSome};
 ghost use Rattle.dem_words.specs.Meaning.{Reads};
-ghost use Rattle.dem_words.specs.Values.{is_built as is_built_of, is_numeral as is_numeral_of, mode_from as mode_of};
+ghost use Rattle.dem_words.specs.Values.{is_numeral as is_numeral_of, mode_from as mode_of};
 ghost use Rattle.dem_words.specs.Values.{number_from as number_of, turn_from as turn_of, turns_from as turns_of};
 
 use crate::order::{Mode, WordFault};
@@ -76,15 +76,4 @@ pub(crate) fn mode_from(text: &str) -> Option<Mode>
         "pack" => Some(Mode::Pack),
         _ => None,
     }
-}
-
-/// Whether the program has this mode.
-#[tactic(auto, unfolding(crate::specs::Values::is_built))]
-pub(crate) fn is_built(mode: Mode) -> bool
-    ensures { result ≡ is_built_of mode }
-{
-    matches!(
-        mode,
-        Mode::Plain | Mode::Sched | Mode::Run | Mode::Check | Mode::Gen | Mode::Pack
-    )
 }

@@ -12,7 +12,7 @@ use std::alloc::Global;
 ///
 /// The words are a mode, the options `--drift`, `--bin`, `--turns`, `--seed` and `--count` with one value each, and the flags
 /// `--report` and `--split`, in any order and each at most once. A number is one or more digits. What isn't given has its default: drift 20,
-/// bin 0, no turns, seed 1, count 100. Words that the command refuses, help asked for, a value that is wrong and a mode that isn't built are Usage.
+/// bin 0, no turns, seed 1, count 100. Words that the command refuses, help asked for and a value that is wrong are Usage.
 #[tactic(auto, unfolding(crate::specs::Meaning::words_of))]
 pub fn read_words(alloc: Global, words: &[String]) -> Result<Order, WordFault>
     ensures { Reads (words_of words.now) result }

@@ -12,6 +12,14 @@ pub returns-in-Check-clause-does : goal.returns-in-Check-clause-does
 returns-in-Check-clause-does g c =
     rw (← c.order.view_is, c.in-Check.is) (c.compare.ensures.does (record { bytes = g.N.Sink.held c.args.note.now; faults = g.N.Sink.faults c.args.note.now }))
 
+pub returns-in-Resume-clause-does : goal.returns-in-Resume-clause-does
+returns-in-Resume-clause-does g c =
+    rw (← c.order.view_is, c.in-Resume.is) (c.resume.ensures.does (record { bytes = g.N.Sink.held c.args.note.now; faults = g.N.Sink.faults c.args.note.now }))
+
+pub returns-in-Look-clause-does : goal.returns-in-Look-clause-does
+returns-in-Look-clause-does g c =
+    rw (← c.order.view_is, c.in-Look.is) (c.inspect.ensures.does (record { bytes = g.N.Sink.held c.args.note.now; faults = g.N.Sink.faults c.args.note.now }))
+
 pub returns-in-Gen-clause-does : goal.returns-in-Gen-clause-does
 returns-in-Gen-clause-does g c =
     let source : Stream = record { bytes = g.S.Source.left c.args.source.now; faults = g.S.Source.faults c.args.source.now } in

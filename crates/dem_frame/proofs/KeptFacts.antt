@@ -164,13 +164,13 @@ with_body-part clumps n frame fields h = by (nat_lt (length frame.bodies) clumps
       stored = h.stored;
     })
     by false e = if_map (IsPart clumps (n + 1)) (and_pair frame) (pair_of (last_held frame.held) fields) (λ x is.
-      let next = if_some (IsNext (last_held frame.held)) (pair_of (last_held frame.held) fields) x (pair_of-next (last_held frame.held) fields) is in
-      record {
-        count = h.count;
-        few = let few = h.few in omega (arith, length_push frame.held x);
-        ascending = ascend-push frame.held x h.ascending next.after;
-        stored = All-push (λ (y : Held). IsStored y.h) frame.held x h.stored next.stored;
-      })
+        let next = if_some (IsNext (last_held frame.held)) (pair_of (last_held frame.held) fields) x (pair_of-next (last_held frame.held) fields) is in
+        record {
+          count = h.count;
+          few = let few = h.few in omega (arith, length_push frame.held x);
+          ascending = ascend-push frame.held x h.ascending next.after;
+          stored = All-push (λ (y : Held). IsStored y.h) frame.held x h.stored next.stored;
+        })
 
 with_head-part : (clumps n : ℕ) (frame : PartialFrame) (step : Option ℕ) (fields : List (List ℕ)) → IsPart clumps n frame → IfSome (with_head clumps frame step fields) (IsPart clumps (n + 1))
 unfolding with_head

@@ -66,5 +66,8 @@ numbers-small s held sound pairs k d lt =
 -- so there are at most that many
 pub held-few : (s : SceneValue) (st : State) → IsSound s → IsFit s st → length st.held ≤ 2 ^ 31
 held-few s st sound fit =
-    omega (arith, length-map st.held (λ (e : Held). number_of e.pair),
-    length-le_from_below (2 ^ 31) (map (λ (e : Held). number_of e.pair) st.held) (numbers-ascend s st.held sound fit.pairs fit.ascending) (numbers-small s st.held sound fit.pairs))
+    omega (
+      arith,
+      length-map st.held (λ (e : Held). number_of e.pair),
+      length-le_from_below (2 ^ 31) (map (λ (e : Held). number_of e.pair) st.held) (numbers-ascend s st.held sound fit.pairs fit.ascending) (numbers-small s st.held sound fit.pairs),
+    )

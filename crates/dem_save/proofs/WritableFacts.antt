@@ -40,10 +40,37 @@ body-fits s b sound h =
     let qa = q.a in
     let qb = q.b in
     let qc = q.c in
-    let qd = q.d in
-    (fits_stored b.p.x p.x, (fits_stored b.p.y p.y, (fits_stored b.p.z p.z, (fits_stored b.v.x v.x, (fits_stored b.v.y v.y, (fits_stored b.v.z v.z,
-    (fits_stored b.q.a (omega arith), (fits_stored b.q.b (omega arith), (fits_stored b.q.c (omega arith), (fits_stored b.q.d (omega arith),
-    (fits_stored b.w.x w.x, (fits_stored b.w.y w.y, (fits_stored b.w.z w.z, tt)))))))))))))
+    let qd = q.d in (
+      fits_stored b.p.x p.x,
+      (
+        fits_stored b.p.y p.y,
+        (
+          fits_stored b.p.z p.z,
+          (
+            fits_stored b.v.x v.x,
+            (
+              fits_stored b.v.y v.y,
+              (
+                fits_stored b.v.z v.z,
+                (
+                  fits_stored b.q.a (omega arith),
+                  (
+                    fits_stored b.q.b (omega arith),
+                    (
+                      fits_stored b.q.c (omega arith),
+                      (
+                        fits_stored b.q.d (omega arith),
+                        (fits_stored b.w.x w.x, (fits_stored b.w.y w.y, (fits_stored b.w.z w.z, tt))),
+                      ),
+                    ),
+                  ),
+                ),
+              ),
+            ),
+          ),
+        ),
+      ),
+    )
 
 -- the bodies of a fit state fit
 bodies-fit : (s : SceneValue) (st : State) → IsSound s → IsFit s st → All BodyFits st.bodies

@@ -17,5 +17,8 @@ returns-clause-value c =
 
 pub returns-clause-size : goal.returns-clause-size
 returns-clause-size c =
-    omega (arith, c.norm2.ensures ∙ ap norm2_of c.widen.ensures,
-    speed-size c.args.shapes.now c.args.state.now.bodies c.args.clump c.get.result.now c.scene-scene.ensures.sound c.requires.sound c.requires.there c.get.ensures)
+    omega (
+      arith,
+      c.norm2.ensures ∙ ap norm2_of c.widen.ensures,
+      speed-size c.args.shapes.now c.args.state.now.bodies c.args.clump c.get.result.now c.scene-scene.ensures.sound c.requires.sound c.requires.there c.get.ensures,
+    )

@@ -19,8 +19,12 @@ crossings-crossed-requires-clause-few c =
 pub find_busiest-contacts-requires : goal.find_busiest-contacts-requires
 find_busiest-contacts-requires c =
     let size : length c.count_contacts.new.counts ≡ c.self.inside.counts.len = omega (arith, c.count_contacts.auto.counts, c.as_mut_slice-2.ensures.len) in
-    omega (arith, ap length (c.as_slice-4.ensures.value ∙ with_items_is c.self.inside.counts c.count_contacts.new.counts size ∙ c.count_contacts.ensures),
-    length-counts_of c.args.shapes.now c.as_slice.result.now, c.scene-scene.ensures.sound.clump_count.le_high)
+    omega (
+      arith,
+      ap length (c.as_slice-4.ensures.value ∙ with_items_is c.self.inside.counts c.count_contacts.new.counts size ∙ c.count_contacts.ensures),
+      length-counts_of c.args.shapes.now c.as_slice.result.now,
+      c.scene-scene.ensures.sound.clump_count.le_high,
+    )
 
 pub returns-clause-value : goal.returns-clause-value
 returns-clause-value c before shows =

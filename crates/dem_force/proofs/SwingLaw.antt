@@ -6,7 +6,7 @@ use Rattle.dem_num.specs.Rotations.{quat_norm2_of}
 use Rattle.dem_model.specs.SceneValue.{SceneValue}
 use Rattle.dem_model.specs.Advance.{advance_of}
 use Rattle.dem_model.specs.Centers.{still_body}
-use Rattle.dem_model.specs.Plain.{first_state, state_after, plain_at, end_at}
+use Rattle.dem_model.specs.Plain.{first_state, state_after, run_after, end_after, end_at}
 use Rattle.dem_model.specs.Sound.{IsSound, IsClump}
 use Rattle.dem_model.specs.Step.{Meeting, first_body, first_load, ended, joined, advanced_from, state_with, step_with, step_of}
 use Rattle.dem_model.specs.declared.law.Load.{Load}
@@ -104,13 +104,13 @@ in_time : (t : Bool) (o : Option State) → StateIf o → StateIf (if t then o e
 in_time true o h = h
 in_time false o h = tt
 
-after-turns : (s : SceneValue) (n : ℕ) (st : State) → AllTurn st.bodies → StateIf (state_after s n st)
+after-turns : (s : SceneValue) (st : State) → AllTurn st.bodies → StateIf (state_after s st)
 unfolding state_after
-after-turns s n st h = in_time _ (result_ok (step_of s st)) (ok-turns (step_of s st) (step_of-turns s st h))
+after-turns s st h = in_time _ (result_ok (step_of s st)) (ok-turns (step_of s st) (step_of-turns s st h))
 
-then-turns : (s : SceneValue) (n : ℕ) (o : Option State) → StateIf o → StateIf (option_and_then (state_after s n) o)
-then-turns s n (Some st) h = after-turns s n st h
-then-turns s n None h = tt
+then-turns : (s : SceneValue) (o : Option State) → StateIf o → StateIf (option_and_then (state_after s) o)
+then-turns s (Some st) h = after-turns s st h
+then-turns s None h = tt
 
 clump-turns : (s : SceneValue) (c : Clump) → IsClump s c → CanTurn c.body
 clump-turns s c h = let long : 2 ^ 58 ≤ quat_norm2_of c.body.q = h.body.body.q.low_le in omega arith
@@ -123,17 +123,21 @@ first_state-turns : (s : SceneValue) → IsSound s → AllTurn (first_state s).b
 unfolding first_state
 first_state-turns s h = first-all s s.clumps h.clumps
 
--- the states of the run
-plain-turns : (s : SceneValue) → IsSound s → (n : ℕ) → StateIf (plain_at s n)
-unfolding plain_at
-plain-turns s sound zero = first_state-turns s sound
-plain-turns s sound (suc n) = then-turns s n (plain_at s n) (plain-turns s sound n)
+-- the states of the run from a state whose bodies can turn
+run-turns : (s : SceneValue) (st : State) → AllTurn st.bodies → (n : ℕ) → StateIf (run_after s st n)
+unfolding run_after
+run-turns s st h zero = h
+run-turns s st h (suc n) = then-turns s (run_after s st n) (run-turns s st h n)
 
 end-turns : (s : SceneValue) (o : Option State) → StateIf o → IfSome (option_and_then (λ (st : State). result_err (step_of s st)) o) IsNoSwing
 end-turns s (Some st) h = err-turns (step_of s st) (step_of-turns s st h)
 end-turns s None h = tt
 
+run-unswung : (s : SceneValue) (st : State) → AllTurn st.bodies → (n : ℕ) → IfSome (end_after s st n) IsNoSwing
+unfolding end_after
+run-unswung s st h n = end-turns s (run_after s st n) (run-turns s st h n)
+
 -- no state of the run has an end by a swing
 pub ends_unswung : (s : SceneValue) → IsSound s → (n : ℕ) → IfSome (end_at s n) (λ e. e.kind ≢ Swing)
 unfolding end_at
-ends_unswung s sound n = end-turns s (plain_at s n) (plain-turns s sound n)
+ends_unswung s sound n = run-unswung s (first_state s) (first_state-turns s sound) n

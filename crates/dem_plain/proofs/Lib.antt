@@ -1,2 +1,3 @@
 pub mod HoldsFacts
 pub mod RunFacts
+pub mod FitFacts

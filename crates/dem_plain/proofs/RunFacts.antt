@@ -1,6 +1,6 @@
 -- Steps of the run: the bodies one by one, the next state, the first state.
 use Rattle.std.proofs.Common.{◌≡◌, ℕ, zero, suc, ◌+◌, ◌^◌, ◌<◌, ◌≤◌, List, [], ◌∷◌, ◌++◌, length, get_or, map, drop, refl, sym, ap, ◌∙◌, arith, subst, Bool, true, false, cond, inl, inr, Option, Some, None, Result, Ok, Err, add-zero, add-one}
-use Rattle.std.specs.Prelude.{if◌then◌else◌, All, nat_lt, find}
+use Rattle.std.specs.Prelude.{if◌then◌else◌, All, IfOk, nat_lt, find}
 use Rattle.std.specs.Option.{option_map, unwrap_or}
 use Rattle.std.specs.Result.{result_ok}
 use Rattle.std.specs.Prelude.{option_and_then}
@@ -15,7 +15,7 @@ use Rattle.dem_model.specs.Centers.{body_at, still_body, centers_of, placed}
 use Rattle.dem_model.specs.Motion.{AreSound}
 use Rattle.dem_model.specs.Pairs.{all_pairs, sphere_count}
 use Rattle.dem_model.specs.Advance.{advance_of}
-use Rattle.dem_model.specs.Plain.{first_state, state_after, plain_at}
+use Rattle.dem_model.specs.Plain.{first_state, state_after, run_after, plain_at}
 use Rattle.dem_model.specs.Ranges.{IsSmall}
 use Rattle.dem_model.specs.Step.{Meeting, meetings, held_in, no_load, no_clump, clump_at, ended, joined, advanced_from, state_with, step_with, step_of, loads_of, same_pair, held_at}
 use Rattle.dem_model.specs.declared.law.Load.{Load}
@@ -32,6 +32,7 @@ use Rattle.dem_force.specs.Places.{HasPlaces}
 use Rattle.dem_force.specs.Sides.{AreSides}
 use Rattle.dem_force.specs.declared.pushing.spheres.Spheres.{Spheres}
 use Rattle.dem_plain.specs.declared.met.Met.{Met}
+use Rattle.dem_plain.specs.Run.{Run}
 use Rattle.dem_plain.specs.Inside.{Advances, Holds, IsAfter, IsNext, IsRun}
 use Rattle.dem_plain.specs.declared.stop.Stop.{Stop}
 use Rattle.dem_plain.specs.declared.stop.Stop.TheVariants.{Ended, OutOfMemory}
@@ -175,7 +176,7 @@ step_ends s st met end centers e h err = step_is s st met (Err end) centers e h 
 
 -- the next state is that of the plain run
 pub plain_next : (s : SceneValue) (st next : State) → plain_at s st.step ≡ Some st → st.step < s.steps → IsNext s st next → plain_at s next.step ≡ Some next
-unfolding plain_at state_after
+unfolding plain_at run_after state_after
 plain_next s st next plain lt h =
     let e : next.step ≡ suc st.step = h.number ∙ add-one st.step in
     let here : plain_at s (suc st.step) ≡ Some next = rw (plain, lt-ltb st.step s.steps lt, h.step) refl in
@@ -183,7 +184,7 @@ plain_next s st next plain lt h =
 
 -- the first state is that of the plain run
 pub plain_first : (s : SceneValue) → plain_at s 0 ≡ Some (first_state s)
-unfolding plain_at
+unfolding plain_at run_after
 plain_first s = refl
 
 -- the bodies of the first state are sound
@@ -237,8 +238,8 @@ pub filled_places : (s : SceneValue) (bodies : List Body) (spheres : Spheres) �
 filled_places s bodies spheres matrices e sides = record { matrices = matrices.count; centers = ap length e ∙ length-centers_of s bodies; sides = sides.count }
 
 -- a run with room is a run
-pub run_kept : (s : SceneValue) (old new : Spheres) (st : State) → IsRun s old st → HasPlaces s new → IsRun s new st
-run_kept s old new st run room = record {
+pub run_kept : (s : SceneValue) (old new : Spheres) (st : State) (whole : Bool) → IsRun s old st whole → HasPlaces s new → IsRun s new st whole
+run_kept s old new st whole run room = record {
   scene = run.scene;
   room = room;
   plain = run.plain;
@@ -247,12 +248,12 @@ run_kept s old new st run room = record {
 }
 
 -- a run goes on with the next state
-pub run_next : (s : SceneValue) (old new : Spheres) (st next : State) → IsRun s old st → HasPlaces s new →
-    st.step < s.steps → IsNext s st next → IsRun s new next
-run_next s old new st next run room lt h = record {
+pub run_next : (s : SceneValue) (old new : Spheres) (st next : State) (whole : Bool) → IsRun s old st whole → HasPlaces s new →
+    st.step < s.steps → IsNext s st next → IsRun s new next whole
+run_next s old new st next whole run room lt h = record {
   scene = run.scene;
   room = room;
-  plain = plain_next s st next run.plain lt h;
+  plain = λ e. plain_next s st next (run.plain e) lt h;
   bodies = h.bodies;
   held = h.held;
 }
@@ -265,19 +266,28 @@ first_is s bodies held e none =
     ap (λ (b : List Body). let st : State = record { step = 0; bodies = b; held = held } in st) e
     ∙ ap (λ (h : List Held). let st : State = record { step = 0; bodies = map (λ (c : Clump). c.body) s.clumps; held = h } in st) none
 
--- a run begins with its first state
-pub run_first : (s shapes : SceneValue) (spheres : Spheres) (bodies : List Body) (held : List Held) → shapes ≡ s → IsSound shapes →
-    HasPlaces shapes spheres → bodies ≡ (first_state s).bodies → held ≡ [] →
-    IsRun shapes spheres (record { step = 0; bodies = bodies; held = held })
-run_first s shapes spheres bodies held same sound room e none =
-    let here : bodies ≡ (first_state shapes).bodies = e ∙ ap (λ x. (first_state x).bodies) (sym same) in
-    record {
-      scene = sound;
-      room = room;
-      plain = plain_first shapes ∙ ap Some (sym (first_is shapes bodies held here none));
-      bodies = subst (AreSound shapes) (sym here) (first_sound shapes sound);
-      held = subst AreStored (sym none) (All-nil (λ (x : Held). Within (widened x.h) MAX_DISPLACEMENT));
-    }
+-- the bodies of the first state are sound, it is that of the plain run, and its displacements are stored
+pub begins_sound : (s shapes : SceneValue) (bodies : List Body) → shapes ≡ s → IsSound shapes → bodies ≡ (first_state s).bodies → AreSound shapes bodies
+begins_sound s shapes bodies same sound e =
+    subst (AreSound shapes) (sym (e ∙ ap (λ x. (first_state x).bodies) (sym same))) (first_sound shapes sound)
+
+pub begins_plain : (s shapes : SceneValue) (bodies : List Body) (held : List Held) → shapes ≡ s → bodies ≡ (first_state s).bodies → held ≡ [] →
+    plain_at shapes 0 ≡ Some (record { step = 0; bodies = bodies; held = held })
+begins_plain s shapes bodies held same e none =
+    plain_first shapes ∙ ap Some (sym (first_is shapes bodies held (e ∙ ap (λ x. (first_state x).bodies) (sym same)) none))
+
+-- the run that stands at the first state
+pub begins_run : {E : Type 0} (s shapes : SceneValue) (bodies : List Body) (held : List Held) (r : Result Run E) → shapes ≡ s → bodies ≡ (first_state s).bodies → held ≡ [] →
+    IfOk r (λ run. run ≡ record { scene = shapes; state = record { step = 0; bodies = bodies; held = held }; whole = true }) →
+    IfOk r (λ run. run ≡ record { scene = s; state = first_state s; whole = true })
+begins_run s shapes bodies held r same e none made =
+    let begun : SceneValue → State → Run = λ x st. record { scene = x; state = st; whole = true } in
+    let first : State = record { step = 0; bodies = bodies; held = held } in
+    subst (λ (st : State). IfOk r (λ run. run ≡ begun s st)) (first_is s bodies held e none)
+    (subst (λ (x : SceneValue). IfOk r (λ run. run ≡ begun x first)) same made)
+
+pub begins_stored : (held : List Held) → held ≡ [] → AreStored held
+begins_stored held none = subst AreStored (sym none) (All-nil (λ (x : Held). Within (widened x.h) MAX_DISPLACEMENT))
 
 -- the meetings, over the state that their lists are of
 holds_of : (s : SceneValue) (st : State) (met : Met) (bodies : List Body) (held : List Held) (centers : List Vec3) → bodies ≡ st.bodies → held ≡ st.held →

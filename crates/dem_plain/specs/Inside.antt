@@ -1,5 +1,5 @@
 -- What a plain run keeps and what its own functions say; no contract of a public call names any of it.
-use Rattle.std.specs.Prelude.{ℕ, ◌≡◌, ◌+◌, All, List, [], ◌∷◌, map, Some, Result, Ok, Err, if◌then◌else◌}
+use Rattle.std.specs.Prelude.{ℕ, ◌≡◌, ◌+◌, All, Bool, true, List, [], ◌∷◌, map, Some, Result, Ok, Err, if◌then◌else◌}
 use Rattle.dem_num.specs.declared.vector.Vec3.{Vec3}
 use Rattle.dem_model.specs.SceneValue.{SceneValue}
 use Rattle.dem_model.specs.Motion.{AreSound}
@@ -20,11 +20,11 @@ use Rattle.dem_plain.specs.declared.met.Met.{Met}
 use Rattle.dem_plain.specs.declared.stop.Stop.{Stop}
 use Rattle.dem_plain.specs.declared.stop.Stop.TheVariants.{Ended, OutOfMemory}
 
--- what a run keeps: its state is that of the plain run, its bodies are sound, what is held is within its range, and there is room for a step
-pub record IsRun (s : SceneValue) (spheres : Spheres) (state : State) : Type 0 where
+-- what a run keeps: its state is that of the plain run where it began as that, its bodies are sound, what is held is within its range, and there is room for a step
+pub record IsRun (s : SceneValue) (spheres : Spheres) (state : State) (whole : Bool) : Type 0 where
   pub scene : IsSound s
   pub room : HasPlaces s spheres
-  pub plain : plain_at s state.step ≡ Some state
+  pub plain : whole ≡ true → plain_at s state.step ≡ Some state
   pub bodies : AreSound s state.bodies
   pub held : AreStored state.held
 

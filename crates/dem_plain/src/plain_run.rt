@@ -1,6 +1,7 @@
 //! The plain run of a scene, step by step.
 
-ghost use Rattle.std.specs.Prelude.{◌≡◌, ◌<◌, ◌≤◌, length, IfOk, Some};
+ghost use Rattle.std.specs.Prelude.{◌≡◌, ◌<◌, ◌≤◌, length, IfOk, Some, true, false};
+ghost use Rattle.dem_model.specs.Fit.{IsFit};
 ghost use Rattle.dem_model.specs.Motion.{AreInside, AreSound};
 ghost use Rattle.dem_model.specs.Plain.{first_state, plain_at};
 ghost use Rattle.dem_model.specs.Centers.{centers_of};
@@ -18,41 +19,72 @@ use dem_shape::{Shapes, first_bodies};
 use std::alloc::Global;
 use std::marker::Model;
 
-/// A run of a scene, seen as the scene and the state that it has reached.
+/// A run of a scene, seen as the scene, the state that it has reached, and whether it began at the first state.
 #[derive(Drop)]
 pub struct PlainRun<'s> {
     alloc: Global,
     shapes: Shapes<'s>,
     spheres: Spheres,
     state: State,
+    whole: bool,
 }
 
 impl<'s> Model for PlainRun<'s> {
     ghost Value = { Run };
 
-    ghost view = { λ a. record { scene = a.shapes; state = a.state } };
+    ghost view = { λ a. record { scene = a.shapes; state = a.state; whole = a.whole } };
 
-    ghost invariant = { λ a. IsRun a.shapes a.spheres a.state };
+    ghost invariant = { λ a. IsRun a.shapes a.spheres a.state a.whole };
 }
 
 impl<'s> PlainRun<'s> {
-    /// The run of a scene at its first state.
+    /// The run of a scene at its first state: the plain run. The only error is refused memory.
     pub fn new(alloc: Global, scene: &'s Scene) -> Result<PlainRun<'s>, OutOfMemory>
-        ensures { IfOk result (λ run. run ≡ record { scene = scene.now; state = first_state scene.now }) }
+        ensures { IfOk result (λ run. run ≡ record { scene = scene.now; state = first_state scene.now; whole = true }) }
     {
         let shapes = Shapes::new(alloc, scene)?;
         let _scene = shapes.scene();
-        let spheres = Spheres::new(alloc, &shapes)?;
         let state = State {
             step: 0,
             bodies: first_bodies(alloc, scene)?,
             held: List::new(alloc),
         };
+        PlainRun::at(alloc, shapes, state, true)
+    }
+
+    /// The run of a scene that goes on from a state that is fit for it. The only error is refused memory.
+    pub fn resume(
+        alloc: Global,
+        scene: &'s Scene,
+        state: State,
+    ) -> Result<PlainRun<'s>, OutOfMemory>
+        requires fit { IsFit scene.now state }
+        ensures { IfOk result (λ run. run ≡ record { scene = scene.now; state = state; whole = false }) }
+    {
+        let shapes = Shapes::new(alloc, scene)?;
+        PlainRun::at(alloc, shapes, state, false)
+    }
+
+    /// The run of a scene that stands at a state.
+    fn at(
+        alloc: Global,
+        shapes: Shapes<'s>,
+        state: State,
+        whole: bool,
+    ) -> Result<PlainRun<'s>, OutOfMemory>
+        requires sound { AreSound shapes state.bodies }
+        requires stored { AreStored state.held }
+        requires plain { whole ≡ true → plain_at shapes state.step ≡ Some state }
+        ensures { IfOk result (λ run. run ≡ record { scene = shapes.entry; state = state; whole = whole }) }
+    {
+        let _scene = shapes.scene();
+        let spheres = Spheres::new(alloc, &shapes)?;
         Ok(PlainRun {
             alloc,
             shapes,
             spheres,
             state,
+            whole,
         })
     }
 
@@ -72,10 +104,10 @@ impl<'s> PlainRun<'s> {
         }
     }
 
-    /// The state that the run has reached: that of the plain run, with sound bodies, and displacements within their range.
+    /// The state that the run has reached, with sound bodies, and displacements within their range; that of the plain run, where this began as that.
     pub fn state(&self) -> &State
         ensures value { result.now ≡ self.now.state }
-        ensures plain { plain_at self.now.scene self.now.state.step ≡ Some self.now.state }
+        ensures plain { self.now.whole ≡ true → plain_at self.now.scene self.now.state.step ≡ Some self.now.state }
         ensures sound { AreSound self.now.scene self.now.state.bodies }
         ensures stored { AreStored self.now.state.held }
         ensures bodies { length result.now.bodies ≤ 16384 }

@@ -1,17 +1,18 @@
-use Rattle.std.proofs.Common.{◌≡◌, ap, ◌∙◌}
-use Rattle.dem_model.specs.SceneValue.{SceneValue}
-use Rattle.dem_model.specs.declared.state.State.{State}
-use Rattle.dem_plain.specs.Run.{Run}
-use Rattle.dem_plain.proofs.RunFacts.{run_first, first_is}
+use Rattle.std.proofs.Common.{◌≡◌, true, ap, ◌∙◌}
+use Rattle.dem_plain.proofs.RunFacts.{begins_sound, begins_plain, begins_stored, begins_run}
 use Rattle.dem_plain.proofs.plain_run.PlainRun.new.Goals as goal
 
-pub invariant_of-result : goal.invariant_of-result
-invariant_of-result c =
-    run_first c.args.scene.now c.in_ok-shapes.shapes c.in_ok-spheres.spheres c.in_ok-first_bodies.field-0 c.new-3.result
-    c.in_ok-shapes.ensures c.scene-scene.ensures.sound c.in_ok-spheres.ensures c.in_ok-first_bodies.ensures c.new-3.ensures
+pub at-requires-clause-sound : goal.at-requires-clause-sound
+at-requires-clause-sound c =
+    begins_sound c.args.scene.now c.in_ok-shapes.shapes c.in_ok-first_bodies.field-0
+    c.in_ok-shapes.ensures c.scene-scene.ensures.sound c.in_ok-first_bodies.ensures
+
+pub at-requires-clause-stored : goal.at-requires-clause-stored
+at-requires-clause-stored c = begins_stored c.new-2.result c.new-2.ensures
+
+pub at-requires-clause-plain : goal.at-requires-clause-plain
+at-requires-clause-plain c =
+    λ e. begins_plain c.args.scene.now c.in_ok-shapes.shapes c.in_ok-first_bodies.field-0 c.new-2.result c.in_ok-shapes.ensures c.in_ok-first_bodies.ensures c.new-2.ensures
 
 pub returns : goal.returns
-returns c =
-    let run : SceneValue → State → Run = λ s st. record { scene = s; state = st } in
-    ap (λ s. run s (record { step = 0; bodies = c.in_ok-first_bodies.field-0; held = c.new-3.result })) c.in_ok-shapes.ensures
-    ∙ ap (run c.args.scene.now) (first_is c.args.scene.now c.in_ok-first_bodies.field-0 c.new-3.result c.in_ok-first_bodies.ensures c.new-3.ensures)
+returns c = begins_run c.args.scene.now c.in_ok-shapes.shapes c.in_ok-first_bodies.field-0 c.new-2.result c.at.result c.in_ok-shapes.ensures c.in_ok-first_bodies.ensures c.new-2.ensures c.at.ensures

@@ -27,7 +27,7 @@ use Rattle.dem_model.specs.Motion.{AreSound, per_step_of}
 use Rattle.dem_model.specs.Near.{drift_of, HasDrifted}
 use Rattle.dem_model.specs.Advance.{is_over, leaves_box, swings, position_after, body_with, limited, velocity_after, spin_after, mass_of, moments_of, body_torque_of, advance_of}
 use Rattle.dem_model.specs.Step.{Meeting, meetings, no_load, no_clump, clump_at, loads_of, ended, joined, advanced_from, state_with, step_with, step_of}
-use Rattle.dem_model.specs.Plain.{first_state, state_after, plain_at}
+use Rattle.dem_model.specs.Plain.{first_state, state_after, run_after, plain_at}
 use Rattle.dem_model.specs.declared.law.Load.{Load}
 use Rattle.dem_model.specs.declared.limits.TheConstants.{VOXEL}
 use Rattle.dem_model.specs.declared.shape.Ball.{Ball}
@@ -326,19 +326,19 @@ result_ok-some (Ok y) x h = ap Ok (same_Some y x h)
 result_ok-some (Err e) x h = absurd (none-some x h)
 
 -- a step of the plain run is the plain step
-state_after-step : (s : SceneValue) (n : ℕ) (st next : State) → state_after s n st ≡ Some next → step_of s st ≡ Ok next
+state_after-step : (s : SceneValue) (st next : State) → state_after s st ≡ Some next → step_of s st ≡ Ok next
 unfolding state_after
-state_after-step s n st next h = elim (cases_Bool (nat_lt n s.steps)) [
+state_after-step s st next h = elim (cases_Bool (nat_lt st.step s.steps)) [
   | inl t ↦ result_ok-some (step_of s st) next (rw t at h)
   | inr f ↦ absurd (none-some next (rw f at h))
 ]
 
 -- each state but the first has one before it
 pub has_before : (s : SceneValue) (n : ℕ) (late : State) → plain_at s (suc n) ≡ Some late → HasBefore s n late
-unfolding plain_at
+unfolding plain_at run_after
 has_before s n late h =
-    option_and_then_some (state_after s n) (plain_at s n) late h
-    (λ (st : State) (is : plain_at s n ≡ Some st) (after : state_after s n st ≡ Some late). record { before = st; plain = is; step = state_after-step s n st late after })
+    option_and_then_some (state_after s) (plain_at s n) late h
+    (λ (st : State) (is : plain_at s n ≡ Some st) (after : state_after s st ≡ Some late). record { before = st; plain = is; step = state_after-step s st late after })
 
 -- a state of the plain run has a body for each clump
 pub plain-count : (s : SceneValue) (n : ℕ) (st : State) → plain_at s n ≡ Some st → length st.bodies ≡ length s.clumps

@@ -11,7 +11,7 @@ use Rattle.dem_model.specs.Carry.{kept_of, Agrees}
 use Rattle.dem_model.specs.Centers.{centers_of}
 use Rattle.dem_model.specs.Near.{near_of, Covers}
 use Rattle.dem_model.specs.Pairs.{all_pairs}
-use Rattle.dem_model.specs.Plain.{first_state, state_after, plain_at}
+use Rattle.dem_model.specs.Plain.{first_state, state_after, run_after, plain_at}
 use Rattle.dem_model.specs.Step.{Meeting, meetings, held_in, loads_of, advanced_from, state_with, step_with, step_of}
 use Rattle.dem_model.specs.declared.law.Load.{Load}
 use Rattle.dem_model.specs.declared.state.Body.{Body}
@@ -59,9 +59,10 @@ plain-number s (suc n) st h =
 
 -- the state after a state of the plain run is one
 pub plain-after : (s : SceneValue) (n : ℕ) (st next : State) → plain_at s n ≡ Some st → n < s.steps → step_of s st ≡ Ok next → plain_at s (n + 1) ≡ Some next
-unfolding plain_at state_after
+unfolding plain_at run_after state_after
 plain-after s n st next plain lt ok =
-    let here : plain_at s (suc n) ≡ Some next = rw (plain, lt-ltb n s.steps lt, ok) refl in
+    let below : st.step < s.steps = subst (λ m. m < s.steps) (sym (plain-number s n st plain)) lt in
+    let here : plain_at s (suc n) ≡ Some next = rw (plain, lt-ltb st.step s.steps below, ok) refl in
     subst (λ m. plain_at s m ≡ Some next) (sym (add-one n)) here
 
 -- ---- the list in use

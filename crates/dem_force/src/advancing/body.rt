@@ -3,7 +3,7 @@
 ghost use Rattle.std.specs.Prelude.{◌≡◌, pos, ◌*◌, ◌^◌, ◌≤◌, ◌+ℤ◌, ◌-ℤ◌, ◌*ℤ◌, unsigned_abs};
 ghost use Rattle.dem_num.specs.Numbers.{AtMost, quotient, shifted};
 ghost use Rattle.dem_num.specs.Vectors.{widened, narrowed, clamped_each, Within};
-ghost use Rattle.dem_num.specs.Rotations.{IsOrientation};
+ghost use Rattle.dem_num.specs.Rotations.{IsOrientation, EntriesWithin, matrix_of};
 ghost use Rattle.dem_model.specs.Sound.{EachBetween, IsBetween};
 ghost use Rattle.dem_model.specs.Advance.{
   velocity_after,
@@ -15,8 +15,8 @@ ghost use Rattle.dem_model.specs.Advance.{
 };
 
 use dem_model::{Body, MAX_MOMENT, MAX_TORQUE};
-use dem_num::{Vec3, Wide3, add, cl3, mul, narrow, reciprocal, sh, sub, tdiv_by};
-use dem_turn::{matrix, turn_step, turned_back};
+use dem_num::{Rows, Vec3, Wide3, add, cl3, mul, narrow, reciprocal, sh, sub, tdiv_by};
+use dem_turn::{turn_step, turned_back};
 
 /// The new velocity: the old one, gravity, and force over mass.
 #[tactic(auto, unfolding(dem_model::specs::Advance::velocity_after))]
@@ -61,14 +61,16 @@ fn acceleration(force: i128, mass: u64, inverse: u64) -> i128
     tdiv_by(force, mass, inverse)
 }
 
-/// The torque in body axes.
+/// The torque in the axes of a body, of which these are the rows of the matrix.
 #[tactic(auto, unfolding(dem_model::specs::Advance::body_torque_of))]
-pub fn body_torque(body: &Body, torque: Wide3) -> Wide3
-    requires { IsOrientation body.now.q }
+pub fn body_torque(body: &Body, rows: &Rows, torque: Wide3) -> Wide3
+    requires rows { rows.now ≡ matrix_of body.now.q }
+    requires entries { EntriesWithin rows.now (2 ^ 30) }
     ensures value { result ≡ body_torque_of body.now torque }
     ensures size { Within result (2 ^ 92) }
 {
-    turned_back(&matrix(body.q), kept_torque(torque))
+    let _axes_of = body;
+    turned_back(rows, kept_torque(torque))
 }
 
 /// A torque, each component brought within the greatest.

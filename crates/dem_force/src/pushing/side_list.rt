@@ -8,13 +8,14 @@ ghost use Rattle.dem_model.specs.declared.limits.TheConstants.{MAX_DISPLACEMENT}
 ghost use Rattle.dem_model.specs.Ranges.{IsTouch, IsSmall, wall_side_of};
 ghost use Rattle.dem_model.specs.Step.{push_of};
 ghost use Rattle.dem_force.specs.Sides.{AreSides};
+ghost use Rattle.dem_shape.specs.Matrices.{AreMatrices};
 
 use crate::pushing::law::contact;
 use crate::pushing::mixing::wall_side;
-use crate::pushing::sides::{law_between, posed_side};
+use crate::pushing::sides::{law_between, side_by};
 use dem_model::{Body, OutOfMemory, Pair, Push, Side, Touch};
 use dem_num::Vec3;
-use dem_shape::{Pose, Shapes};
+use dem_shape::{Matrices, Shapes};
 use std::alloc::Global;
 use std::marker::Model;
 
@@ -47,17 +48,15 @@ impl Sides {
         Ok(Sides { items })
     }
 
-    /// Sets every side to what the bodies make it.
-    pub fn fill(&mut self, shapes: &Shapes, bodies: &[Body])
+    /// Sets every side to what the bodies make it, of which these are the matrices.
+    pub fn fill(&mut self, shapes: &Shapes, bodies: &[Body], matrices: &Matrices)
         requires made { length self.old ≡ sphere_count shapes.now }
         requires sound { AreSound shapes.now bodies.now }
+        requires matrices { AreMatrices shapes.now bodies.now matrices.now }
         ensures { AreSides shapes.now bodies.now self.new }
     {
-        let _scene = shapes.scene();
-        let mut pose = Pose::new(shapes, bodies, 0);
         for s in 0..shapes.spheres() {
-            pose = pose.for_sphere(shapes, bodies, s);
-            self.items[s as usize] = posed_side(shapes, bodies, &pose, s);
+            self.items[s as usize] = side_by(shapes, bodies, matrices, s);
         }
     }
 

@@ -6,7 +6,7 @@ use Rattle.dem_model.specs.Sound.{IsBodyOf}
 use Rattle.dem_model.specs.Step.{clump_at}
 use Rattle.dem_model.specs.declared.law.Load.{Load}
 use Rattle.dem_force.proofs.AdvanceFacts.{advance_of-at, placed-sound}
-use Rattle.dem_force.proofs.advancing.clump.advance.Goals as goal
+use Rattle.dem_force.proofs.advancing.clump.advance_by.Goals as goal
 
 pub returns-clause-value : goal.returns-clause-value
 returns-clause-value c =

@@ -1,5 +1,5 @@
 -- The counts of pairs: pair after pair, and the greatest of them.
-use Rattle.std.proofs.Common.{◌≡◌, ◌≢◌, ℕ, zero, suc, ◌+◌, ◌^◌, ◌<◌, ◌≤◌, Bool, true, false, cond, ◌||◌, List, [], ◌∷◌, length, get_or, take, drop, replicate, Option, None, Some, refl, sym, ap, ap₂, ◌∙◌, arith, subst, zero-add, add-zero, inl, inr, find}
+use Rattle.std.proofs.Common.{◌≡◌, ◌≢◌, ℕ, zero, suc, ◌+◌, ◌^◌, ◌<◌, ◌≤◌, Bool, true, false, cond, List, ◌∷◌, length, get_or, take, drop, replicate, Option, None, Some, refl, sym, ap, ap₂, ◌∙◌, arith, subst, zero-add, add-zero, inl, inr, find}
 use Rattle.std.specs.Prelude.{◌==◌, All, fold, max, unwrap_or}
 use Rattle.std.specs.List.{range_with_len, count_by}
 use Rattle.std.proofs.lemmas.Bool.{cases_eq, ne_eqb, eq-eqb, lt-ltb, le-ltb}

@@ -1,5 +1,5 @@
 -- The states that are due of a run, by the steps that are left.
-use Rattle.std.proofs.Common.{◌≡◌, ℕ, zero, suc, ◌+◌, ◌<◌, ◌≤◌, List, [], ◌∷◌, Option, None, Some, Result, Ok, Err, refl, sym, ap, ◌∙◌, add-one, arith}
+use Rattle.std.proofs.Common.{◌≡◌, ℕ, zero, suc, ◌+◌, List, [], None, Some, Result, Ok, Err, refl, ap, ◌∙◌, add-one, arith}
 use Rattle.std.specs.Prelude.{option_and_then}
 use Rattle.std.specs.List.{filter_map, range_with_len, cons_option}
 use Rattle.dem_model.specs.SceneValue.{SceneValue}
@@ -9,6 +9,7 @@ use Rattle.dem_model.specs.Output.{due_state, due_states}
 use Rattle.dem_model.specs.declared.state.State.{State}
 use Rattle.dem_model.specs.declared.state.End.{End}
 use Rattle.dem_output.proofs.RunLaw.{by_step, step_of-step, begins-at, run_after-next}
+use Rattle.dem_output.proofs.WholeFacts.{first-step}
 
 -- the states that are due in this many more steps
 unfoldable pub dues_from : SceneValue → ℕ → State → List State
@@ -46,17 +47,12 @@ dues-left s start (suc k) n st here left =
     dues-step s start k n (step_of s st) (run_after-next s start n st (omega arith) here)
     (λ next e there. dues-left s start k (n + 1) next there (omega (arith, step_of-step s st next e)))
 
--- the first state has number 0
-pub starts-zero : (s : SceneValue) → (first_state s).step ≡ 0
-unfolding first_state
-starts-zero s = refl
-
 -- the states that are due of a whole run: the first, where it is, and those of all steps
 pub dues-first : (s : SceneValue) → due_states s (first_state s) (range_with_len 0 (s.steps + 1)) ≡ cons_option (due_state s (first_state s)) (dues_from s s.steps (first_state s))
 unfolding due_states run_after
 dues-first s =
     ap (λ k. due_states s (first_state s) (range_with_len 0 k)) (add-one s.steps)
-    ∙ ap (cons_option (due_state s (first_state s))) (dues-left s (first_state s) s.steps 0 (first_state s) (begins-at s (first_state s)) (omega (arith, starts-zero s)))
+    ∙ ap (cons_option (due_state s (first_state s))) (dues-left s (first_state s) s.steps 0 (first_state s) (begins-at s (first_state s)) (omega (arith, first-step s)))
 
 -- after a step
 pub dues-next : (s : SceneValue) (k : ℕ) (st next : State) → step_of s st ≡ Ok next → dues_from s (suc k) st ≡ cons_option (due_state s next) (dues_from s k next)

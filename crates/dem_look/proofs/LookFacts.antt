@@ -1,5 +1,5 @@
 -- What the loop of a run that is looked at keeps: the rows it wrote, those it has still to write, and how the run ends.
-use Rattle.std.proofs.Common.{◌≡◌, ℕ, zero, suc, ◌+◌, ◌-◌, ◌<◌, ◌≤◌, true, false, List, [], ◌∷◌, ◌++◌, Option, None, Some, Ok, Err, refl, sym, ap, ◌∙◌, append_assoc, append-nil, arith, subst}
+use Rattle.std.proofs.Common.{◌≡◌, ℕ, zero, suc, ◌+◌, ◌-◌, ◌<◌, ◌≤◌, true, false, List, [], ◌++◌, Option, None, Some, Ok, Err, refl, sym, ap, ◌∙◌, append_assoc, append-nil, arith, subst}
 use Rattle.std.specs.Prelude.{if◌then◌else◌}
 use Rattle.std.specs.List.{cons_option}
 use Rattle.std.specs.Io.KnownBytes.{Appends, Keeps}
@@ -12,14 +12,15 @@ use Rattle.dem_model.specs.Step.{step_of}
 use Rattle.dem_model.specs.Plain.{first_state, last_of}
 use Rattle.dem_model.specs.Frames.{last_text}
 use Rattle.dem_model.specs.Look.{look_of, look_text, looks_text, looked_at}
-use Rattle.dem_model.specs.Output.{is_due, due_state, due_states}
+use Rattle.dem_model.specs.Output.{is_due, due_state}
 use Rattle.dem_model.specs.declared.state.State.{State}
 use Rattle.dem_model.specs.declared.state.End.{End}
 use Rattle.dem_model.specs.declared.state.Last.{Last}
 use Rattle.dem_model.specs.declared.state.Last.TheVariants.{Done, Passed}
 use Rattle.dem_output.proofs.RunLaw.{by_step, last_from, last_after-left, step_of-step}
+use Rattle.dem_output.proofs.WholeFacts.{first-step}
 use Rattle.dem_look.specs.Looking.{due_look, shown_after}
-use Rattle.dem_look.proofs.DueFacts.{dues_from, starts-zero, dues-first, dues-next, dues-end, dues-done}
+use Rattle.dem_look.proofs.DueFacts.{dues_from, dues-first, dues-next, dues-end, dues-done}
 
 -- what is still to be written behind a state, where this one was shown last
 abbrev pub looks_left : SceneValue → Option State → State → List ℕ
@@ -41,7 +42,7 @@ looks-none s before = refl
 looked-first : (s : SceneValue) → due_look s None (first_state s) ++ looks_left s (shown_after s None (first_state s)) (first_state s) ≡ looked_at s
 unfolding looked_at
 looked-first s =
-    let zero_left : s.steps - (first_state s).step ≡ s.steps = omega (arith, starts-zero s) in
+    let zero_left : s.steps - (first_state s).step ≡ s.steps = omega (arith, first-step s) in
     ap (λ k. due_look s None (first_state s) ++ (looks_text s (shown_after s None (first_state s)) (dues_from s k (first_state s)) ++ last_text (last_of s))) zero_left
     ∙ sym (append_assoc (due_look s None (first_state s)) (looks_text s (shown_after s None (first_state s)) (dues_from s s.steps (first_state s))) (last_text (last_of s)))
     ∙ ap (λ l. l ++ last_text (last_of s))
@@ -50,7 +51,7 @@ looked-first s =
 -- how a whole run ends
 last-first : (s : SceneValue) → last_from s (s.steps - (first_state s).step) (first_state s) ≡ last_of s
 unfolding last_of
-last-first s = sym (last_after-left s (first_state s) (omega (arith, starts-zero s)))
+last-first s = sym (last_after-left s (first_state s) (omega (arith, first-step s)))
 
 -- a run that is looked at stands at this state, where that one was shown last
 pub record StandsLooking (old now : Option (List ℕ)) (s : SceneValue) (before : Option State) (st : State) : Type 0 where
@@ -62,7 +63,7 @@ pub record StandsLooking (old now : Option (List ℕ)) (s : SceneValue) (before 
 pub StandsLooking-start : (old now : Option (List ℕ)) (s : SceneValue) → Appends old now (due_look s None (first_state s)) → StandsLooking old now s (shown_after s None (first_state s)) (first_state s)
 StandsLooking-start old now s first =
     record {
-      in_range = omega (arith, starts-zero s);
+      in_range = omega (arith, first-step s);
       written = Written-piece old old now (due_look s None (first_state s)) (looks_left s (shown_after s None (first_state s)) (first_state s)) (looked_at s)
           (subst (λ l. Written old old l (looked_at s)) (sym (looked-first s)) (Written-start old (looked_at s))) first;
       ends = last-first s;

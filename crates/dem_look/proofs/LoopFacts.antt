@@ -1,11 +1,10 @@
 -- What the parts of a run that is looked at promise, put together.
 use Rattle.std.proofs.Common.{◌≡◌, ℕ, ◌-◌, ◌<◌, List, true, length, Option, None, Some, Ok, Err, sym, ap, ◌∙◌, arith, subst}
-use Rattle.std.specs.Io.KnownBytes.{Appends, Keeps}
+use Rattle.std.specs.Io.KnownBytes.{Appends}
 use Rattle.dem_outside.specs.Faults.{Rose}
 use Rattle.dem_outside.specs.Known.{AppendsPrefix}
 use Rattle.dem_outside.proofs.Prefixes.{AppendsPrefix-kept}
 use Rattle.dem_model.specs.SceneValue.{SceneValue}
-use Rattle.dem_model.specs.Step.{step_of}
 use Rattle.dem_model.specs.Plain.{first_state}
 use Rattle.dem_model.specs.Look.{looked_at}
 use Rattle.dem_model.specs.declared.state.State.{State}

@@ -1,8 +1,6 @@
 -- The row of what is seen, number after number.
-use Rattle.std.proofs.Common.{◌≡◌, ℕ, ℤ, pos, List, [], ◌∷◌, ◌++◌, codes, length, drop, get_or, refl, arith}
+use Rattle.std.proofs.Common.{◌≡◌, ℕ, ℤ, pos, List, [], ◌∷◌, ◌++◌, codes, refl, arith}
 use Rattle.std.specs.Fmt.{signed_decimal, decimal}
-use Rattle.std.specs.List.{flat_map}
-use Rattle.dem_model.specs.Frames.{number_text, row_text}
 use Rattle.dem_model.specs.Look.{look_text}
 use Rattle.dem_model.specs.declared.look.LookRow.{LookRow}
 use Rattle.dem_frame.proofs.RowFacts.{Builds, Builds-more, Builds-all}

@@ -1,4 +1,4 @@
-use Rattle.std.proofs.Common.{◌≡◌, ◌∙◌, length, arith}
+use Rattle.std.proofs.Common.{◌∙◌, length, arith}
 use Rattle.dem_look.proofs.CountFacts.{counts-none, counts-more, counts-few}
 use Rattle.dem_look.proofs.contacts.count_contacts.Goals as goal
 

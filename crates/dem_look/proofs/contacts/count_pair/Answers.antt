@@ -1,4 +1,4 @@
-use Rattle.std.proofs.Common.{◌≡◌, arith}
+use Rattle.std.proofs.Common.{arith}
 use Rattle.dem_model.specs.Step.{first_clump}
 use Rattle.dem_look.proofs.CountFacts.{one-clump, two-counts}
 use Rattle.dem_look.proofs.contacts.count_pair.Goals as goal

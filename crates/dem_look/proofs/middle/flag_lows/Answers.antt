@@ -1,4 +1,4 @@
-use Rattle.std.proofs.Common.{◌≡◌, length, arith}
+use Rattle.std.proofs.Common.{arith}
 use Rattle.dem_look.proofs.FlagFacts.{lows-more, lows-all}
 use Rattle.dem_look.proofs.middle.flag_lows.Goals as goal
 

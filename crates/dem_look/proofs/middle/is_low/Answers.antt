@@ -1,4 +1,4 @@
-use Rattle.std.proofs.Common.{◌≡◌, sym, ap, ap₂, ◌∙◌, ℤ, FitsSigned, w64, rules}
+use Rattle.std.proofs.Common.{sym, ap₂, ◌∙◌, ℤ, FitsSigned, w64, rules}
 use Rattle.std.specs.Prelude.{int_lt}
 use Rattle.std.proofs.lemmas.Int.{to_z-of_z}
 use Rattle.dem_model.specs.Look.{is_low}

@@ -1,4 +1,4 @@
-use Rattle.std.proofs.Common.{◌≡◌, sym, ap, ◌∙◌}
+use Rattle.std.proofs.Common.{sym, ap, ◌∙◌}
 use Rattle.std.specs.Prelude.{slice_get}
 use Rattle.dem_model.specs.SceneValue.{SceneValue}
 use Rattle.dem_force.proofs.TouchFacts.{template_read}

@@ -1,4 +1,4 @@
-use Rattle.std.proofs.Common.{◌≡◌, ◌^◌, sym, ap, ◌∙◌, subst, arith}
+use Rattle.std.proofs.Common.{◌^◌, sym, ap, ◌∙◌, subst, arith}
 use Rattle.dem_num.specs.Vectors.{widened, Within, norm2_of}
 use Rattle.dem_num.specs.declared.vector.Wide3.{Wide3}
 use Rattle.dem_num.proofs.VectorSizes.{within_wider}

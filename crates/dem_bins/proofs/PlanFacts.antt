@@ -20,7 +20,7 @@ use Rattle.dem_force.proofs.TouchFacts.{in_box-between}
 use Rattle.dem_bins.specs.Bins.{GridValue, IsGridOf, most_tests}
 use Rattle.dem_bins.specs.Blocks.{blocks_of, block_at, IsBlock}
 use Rattle.dem_bins.specs.Keys.{column_of, key_of, cells_in, row_keys, own_keys, keys_of, IsKey}
-use Rattle.dem_bins.specs.Walk.{AreKeys, rows_of, rows_visits, walls_found}
+use Rattle.dem_bins.specs.Walk.{AreBoxes, AreKeys, rows_of, rows_visits, walls_found}
 use Rattle.dem_bins.specs.declared.blocks.Block.{Block}
 use Rattle.dem_bins.specs.declared.keys.TheConstants.{CELLS, SPHERES}
 use Rattle.dem_bins.proofs.ListFacts.{flat-from, map-from, range-from}
@@ -28,7 +28,7 @@ use Rattle.dem_bins.proofs.KeyFacts.{sphere_in-key, key_of-small, column_of-smal
 use Rattle.dem_bins.proofs.CountFacts.{all_shared, block_at-good, block_at-any, rows_visits-le}
 use Rattle.dem_bins.proofs.RoomFacts.{rows_of-le}
 use Rattle.dem_bins.proofs.BlockFacts.{AreWide, block_of-good, blocks_of-count, blocks_of-at, blocks_of-wide}
-use Rattle.dem_bins.proofs.NearFacts.{IsPlace, found-same}
+use Rattle.dem_bins.proofs.NearFacts.{IsPlace, found-same, blocks_of-boxes}
 use Rattle.dem_bins.proofs.BoundFacts.{all_shared-is}
 
 -- ---- centers in the box
@@ -96,6 +96,11 @@ plan-keys s g cs bs es p =
       keys = All-permutation (IsKey bs) (keys_of bs) es p.moved (λ k d l. keys_of-key bs (get_or (keys_of bs) k d) good.0 good.1 (Contains-get_or (keys_of bs) k d l));
       order = p.order;
     }
+
+pub plan-boxes : (s : SceneValue) (g : GridValue) (drift : ℕ) (cs : List Vec3) (bs : List Block) (es : List ℕ) → IsPlan s g cs bs es → drift ≡ g.drift → AreBoxes s drift cs bs
+plan-boxes s g drift cs bs es p same =
+    subst (λ (n : ℕ). AreBoxes s n cs bs) (sym same)
+    (subst (λ (xs : List Block). AreBoxes s g.drift cs xs) (sym p.blocks) (blocks_of-boxes s g cs p.grid (λ i l. inside-place s cs i p.sound p.inside l)))
 
 -- a walk finds fewer pairs than a list has room for
 pub plan-room : (s : SceneValue) (g : GridValue) (drift : ℕ) (cs : List Vec3) (bs : List Block) (es : List ℕ) → IsPlan s g cs bs es → length (rows_of s drift cs bs es) ≤ 2 ^ 30

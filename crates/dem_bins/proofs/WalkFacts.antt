@@ -1,16 +1,17 @@
 -- What a walk has found so far: nothing up to a key itself, nothing after its end, and each visit in between.
-use Rattle.std.proofs.Common.{◌≡◌, ℕ, ◌+◌, ◌*◌, ◌-◌, ◌<◌, ◌≤◌, List, [], ◌∷◌, ◌++◌, length, map, take, drop, get_or, refl, sym, ap, ap₂, ◌∙◌, arith, subst, zero-add, inl, inr, true, false}
-use Rattle.std.specs.Prelude.{◌&&◌, ◌==◌, not, nat_lt, All}
+use Rattle.std.proofs.Common.{◌≡◌, ℕ, ◌+◌, ◌*◌, ◌-◌, ◌<◌, ◌≤◌, List, [], ◌∷◌, ◌++◌, length, map, take, drop, get_or, refl, sym, ap, ap₂, ◌∙◌, arith, subst, zero-add, inl, inr, true, false, Bool}
+use Rattle.std.specs.Prelude.{◌&&◌, ◌==◌, not, nat_lt, All, if◌then◌else◌}
 use Rattle.std.specs.List.{flat_map, range_with_len}
 use Rattle.std.specs.List.Sorted.{IsNonDecreasing}
-use Rattle.std.proofs.lemmas.Bool.{le-ltb, lt-ltb, eq-eqb, and_left, and_right, and_from, not_from_false, ne_eqb, cases_order}
+use Rattle.std.proofs.lemmas.Bool.{and_parts, le-ltb, lt-ltb, eq-eqb, and_left, and_right, and_from, not_from_false, ne_eqb, cases_order}
 use Rattle.std.proofs.lemmas.List.{append-nil, append_assoc, length-append, take_more, take_all, take-append-drop, get_or-take, get_or-drop, get_or_default, length-take, length-drop}
 use Rattle.std.proofs.lemmas.List.Concat.{flat_map-append}
 use Rattle.std.proofs.lemmas.List.Folds.{length-flat_map-take}
 use Rattle.std.proofs.lemmas.List.Elements.{All-tail, All-head}
 use Rattle.dem_num.specs.declared.vector.Vec3.{Vec3}
 use Rattle.dem_model.specs.SceneValue.{SceneValue}
-use Rattle.dem_model.specs.Pairs.{sphere_count, pair_of}
+use Rattle.dem_model.specs.Near.{near}
+use Rattle.dem_model.specs.Pairs.{apart, sphere_count, pair_of}
 use Rattle.dem_model.specs.declared.state.Pair.{Pair}
 use Rattle.dem_bins.proofs.RoomFacts.{pair_if_near-short}
 use Rattle.std.proofs.lemmas.List.FromFn.{map-range_with_len_more}
@@ -75,6 +76,12 @@ pub meets-apart : (bs : List Block) (e d : ℕ) → beside (block_at bs (sphere_
 unfolding meets
 meets-apart bs e d h =
     and_right (nat_lt e d && nat_lt d (end_of bs e) && not (sphere_in e == sphere_in d)) (beside (block_at bs (sphere_in e)) (block_at bs (sphere_in d))) h
+
+-- keys that meet are of spheres whose boxes are beside each other
+pub meets-beside : (bs : List Block) (e d : ℕ) → meets bs e d ≡ true → beside (block_at bs (sphere_in e)) (block_at bs (sphere_in d)) ≡ true
+unfolding meets
+meets-beside bs e d h =
+    (and_parts (nat_lt e d && nat_lt d (end_of bs e) && not (sphere_in e == sphere_in d)) (beside (block_at bs (sphere_in e)) (block_at bs (sphere_in d))) h).1
 
 -- two keys of two spheres do, in order and before the end, where the boxes are beside each other
 pub meets-now : (bs : List Block) (e d : ℕ) → e ≤ d → d < end_of bs e → (sphere_in e ≡ sphere_in d → ⊥) → beside (block_at bs (sphere_in e)) (block_at bs (sphere_in d)) ≡ true → meets bs e d ≡ true
@@ -182,6 +189,12 @@ pub visit-first : (s : SceneValue) (drift : ℕ) (cs : List Vec3) (bs : List Blo
 unfolding visited
 visit-first s drift cs bs e d p meet same first =
     sym (met-visited s drift cs bs e d meet ∙ rw (eq-eqb (first_column (block_at bs (sphere_in e)) (block_at bs (sphere_in d))) (column_in e) first) (ap (pair_if_near s drift cs) (sym same)))
+
+-- the same where it is known whether the pair is near
+pub visit-near : (s : SceneValue) (drift : ℕ) (cs : List Vec3) (bs : List Block) (e d : ℕ) (p : Pair) (n : Bool) → meets bs e d ≡ true → p ≡ pair_in e d →
+    first_column (block_at bs (sphere_in e)) (block_at bs (sphere_in d)) ≡ column_in e → near s drift cs (pair_in e d) ≡ n → (if apart s p && n then p ∷ [] else []) ≡ met s drift cs bs e d
+visit-near s drift cs bs e d p n meet same first seen =
+    ap (λ (t : Bool). if apart s p && t then p ∷ [] else []) (sym seen ∙ ap (near s drift cs) (sym same)) ∙ visit-first s drift cs bs e d p meet same first
 
 -- and nothing elsewhere
 pub visit-later : (s : SceneValue) (drift : ℕ) (cs : List Vec3) (bs : List Block) (e d : ℕ) → meets bs e d ≡ true →

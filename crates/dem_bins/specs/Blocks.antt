@@ -20,19 +20,21 @@ interval_of bin reach c = record { low = c + 4 * bin - reach; high = c + 4 * bin
 unfoldable pub cells_of : ℕ → Span → Span
 cells_of side a = record { low = a.low / side; high = a.high / side }
 
--- a sphere's box on the first two axes, the columns of some bins that it meets there, and the bins that it meets on the third
+-- a sphere's box, the columns of some bins that it meets there, and the bins that it meets on the third
 unfoldable pub block_of : SceneValue → GridValue → List Vec3 → ℕ → Block
 block_of s g centers i =
     let reach = reach_of s g.drift i in
     let c = center_at centers i in
     let across = interval_of g.bin reach (unsigned_abs c.x) in
     let along = interval_of g.bin reach (unsigned_abs c.y) in
+    let upright = interval_of g.bin reach (unsigned_abs c.z) in
     record {
       x = cells_of (g.bin * WIDE) across;
       y = cells_of (g.bin * WIDE) along;
-      z = cells_of g.bin (interval_of g.bin reach (unsigned_abs c.z));
+      z = cells_of g.bin upright;
       across = across;
       along = along;
+      upright = upright;
     }
 
 -- those of all spheres, in the order of their numbers
@@ -45,7 +47,7 @@ no_span = record { low = 0; high = 0 }
 
 -- the block that stands where a number names none
 abbrev pub no_block : Block
-no_block = record { x = no_span; y = no_span; z = no_span; across = no_span; along = no_span }
+no_block = record { x = no_span; y = no_span; z = no_span; across = no_span; along = no_span; upright = no_span }
 
 -- a block by the number of its sphere
 unfoldable pub block_at : List Block → ℕ → Block

@@ -35,7 +35,7 @@ pub struct Span {
     pub high: u64,
 }
 
-/// The columns that the box of a sphere meets on the first two axes, the bins that it meets on the third, and the box on the first two.
+/// The columns that the box of a sphere meets on the first two axes, the bins that it meets on the third, and the box.
 #[derive(Clone, Copy)]
 pub struct Block {
     pub x: Span,
@@ -43,6 +43,7 @@ pub struct Block {
     pub z: Span,
     pub across: Span,
     pub along: Span,
+    pub upright: Span,
 }
 
 /// The blocks of all spheres, in the order of their numbers.
@@ -77,12 +78,14 @@ fn block_around(shapes: &Shapes, centers: &Centers, grid: &Grid, i: u32) -> Bloc
     let c = center(shapes, centers, i);
     let across = interval(grid.bin(), reach, c.x);
     let along = interval(grid.bin(), reach, c.y);
+    let upright = interval(grid.bin(), reach, c.z);
     Block {
         x: cells(grid.bin() * WIDE, across),
         y: cells(grid.bin() * WIDE, along),
-        z: cells(grid.bin(), interval(grid.bin(), reach, c.z)),
+        z: cells(grid.bin(), upright),
         across,
         along,
+        upright,
     }
 }
 
@@ -133,7 +136,7 @@ pub fn are_beside(a: &Block, b: &Block) -> bool
 
 /// Whether each of two intervals begins no later than the other ends.
 #[tactic(auto, unfolding(crate::specs::Blocks::meet_on))]
-fn meet_on(a: Span, b: Span) -> bool
+pub fn meet_on(a: Span, b: Span) -> bool
     ensures { result ≡ do_meet a b }
 {
     !(b.high < a.low) && !(a.high < b.low)

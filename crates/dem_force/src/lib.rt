@@ -16,6 +16,7 @@ mod tests;
 mod touching;
 
 pub use advancing::clump::{advance, advance_by};
+pub use advancing::limits::in_box;
 pub use advancing::unswung::never_swings;
 pub use dem_model::{Law, Push, Side, Touch};
 pub use pushing::law::contact;

@@ -1,3 +1,4 @@
 pub mod RunLaw
 pub mod RunFacts
+pub mod WholeFacts
 pub mod LoopFacts

@@ -1,14 +1,15 @@
--- The output of a run, by the steps that are left: what its loop has still to write, and how it ends.
-use Rattle.std.proofs.Common.{◌≡◌, ℕ, zero, suc, ◌+◌, ◌<◌, Bool, true, false, cond, List, [], ◌∷◌, ◌++◌, filter, None, Some, Result, Ok, Err, refl, sym, ap, ◌∙◌, add-one, append_assoc, arith}
+-- A run from its beginning on, by the steps that are left: the frames that are still due, and how it ends.
+use Rattle.std.proofs.Common.{◌≡◌, ℕ, zero, suc, ◌+◌, ◌-◌, ◌<◌, ◌≤◌, true, false, List, [], ◌∷◌, ◌++◌, Option, None, Some, Result, Ok, Err, refl, ap, ◌∙◌, add-one, arith}
+use Rattle.std.specs.Prelude.{if◌then◌else◌, option_and_then}
 use Rattle.std.specs.List.{flat_map, filter_map, range_with_len, cons_option}
 use Rattle.std.specs.Option.{option_map_or}
 use Rattle.std.specs.Result.{result_ok, result_err}
 use Rattle.std.proofs.lemmas.Bool.{lt-ltb}
 use Rattle.dem_model.specs.SceneValue.{SceneValue}
 use Rattle.dem_model.specs.Step.{Meeting, step_of, step_with, state_with}
-use Rattle.dem_model.specs.Plain.{first_state, state_after, plain_at, end_at, last_among, last_of}
+use Rattle.dem_model.specs.Plain.{state_after, run_after, end_after, last_among, last_after}
 use Rattle.dem_model.specs.Frames.{state_text, last_text}
-use Rattle.dem_model.specs.Output.{due_text, is_due, frame_at, output_of}
+use Rattle.dem_model.specs.Output.{due_text, due_state, due_states, is_due, run_text, rest_of}
 use Rattle.dem_model.specs.declared.state.Body.{Body}
 use Rattle.dem_model.specs.declared.state.State.{State}
 use Rattle.dem_model.specs.declared.state.End.{End}
@@ -44,111 +45,107 @@ pub step_of-step : (s : SceneValue) (st next : State) → step_of s st ≡ Ok ne
 unfolding step_of step_with
 step_of-step s st next e = state_with-step (st.step + 1) _ _ next e
 
+-- a run begins where it begins
+pub begins-at : (s : SceneValue) (beginning : State) → run_after s beginning 0 ≡ Some beginning
+unfolding run_after
+begins-at s beginning = refl
+
 -- the state after one that is reached
-plain_at-next : (s : SceneValue) (n : ℕ) (st : State) → n < s.steps → plain_at s n ≡ Some st → plain_at s (n + 1) ≡ by_step Some (λ _. None) (step_of s st)
-unfolding plain_at state_after
-plain_at-next s n st below here =
-    let lt = lt-ltb n s.steps below in
+pub run_after-next : (s : SceneValue) (beginning : State) (n : ℕ) (st : State) → st.step < s.steps → run_after s beginning n ≡ Some st
+    → run_after s beginning (n + 1) ≡ by_step Some (λ _. None) (step_of s st)
+unfolding run_after state_after
+run_after-next s beginning n st below here =
+    let lt = lt-ltb st.step s.steps below in
     rw (add-one, here, lt) (elim (step_of s st) as (λ r. result_ok r ≡ by_step Some (λ _. None) r) [ Ok next ↦ refl | Err e ↦ refl ])
 
 -- no state after none
-plain_at-none : (s : SceneValue) (n : ℕ) → plain_at s n ≡ None → plain_at s (n + 1) ≡ None
-unfolding plain_at
-plain_at-none s n none = rw (add-one, none)
+run_after-none : (s : SceneValue) (beginning : State) (n : ℕ) → run_after s beginning n ≡ None → run_after s beginning (n + 1) ≡ None
+unfolding run_after
+run_after-none s beginning n none = rw (add-one, none)
 
 -- ---- the frames
 
--- the first of a list, where it passes, and then the others
-flat_filter : (f : ℕ → List ℕ) (p : ℕ → Bool) (x : ℕ) (xs : List ℕ) → flat_map f (filter p (x ∷ xs)) ≡ cond (p x) (f x) [] ++ flat_map f (filter p xs)
-flat_filter f p x xs = elim (p x) as (λ b. flat_map f (cond b (x ∷ filter p xs) (filter p xs)) ≡ cond b (f x) [] ++ flat_map f (filter p xs)) [ true ↦ refl | false ↦ refl ]
+-- the frame of a state, where there is one
+abbrev frame_of : Option State → List ℕ
+frame_of o = option_map_or state_text o []
 
-abbrev nothing : List ℕ
-nothing = []
+frames-cons : (o : Option State) (sts : List State) → flat_map state_text (cons_option o sts) ≡ frame_of o ++ flat_map state_text sts
+frames-cons (Some st) sts = refl
+frames-cons None sts = refl
 
-cond-same : (b : Bool) → cond b nothing nothing ≡ nothing
-cond-same true = refl
-cond-same false = refl
+-- the frame of a state that is due is its text, where it is due
+due-frame : (s : SceneValue) (st : State) → frame_of (due_state s st) ≡ due_text s st
+unfolding due_state due_text
+due-frame s st = elim (is_due s st.step) as (λ b. frame_of (if b then Some st else None) ≡ (if b then state_text st else [])) [ true ↦ refl | false ↦ refl ]
 
--- no frame after no state
-frames-none : (s : SceneValue) (k n : ℕ) → plain_at s n ≡ None → flat_map (frame_at s) (filter (is_due s) (range_with_len n k)) ≡ []
-unfolding frame_at
-frames-none s zero n none = refl
-frames-none s (suc k) n none =
-    flat_filter (frame_at s) (is_due s) n (range_with_len (n + 1) k)
-    ∙ ap (λ o. cond (is_due s n) (option_map_or state_text o []) [] ++ flat_map (frame_at s) (filter (is_due s) (range_with_len (n + 1) k))) none
-    ∙ ap (λ l. l ++ flat_map (frame_at s) (filter (is_due s) (range_with_len (n + 1) k))) (cond-same (is_due s n))
-    ∙ frames-none s k (n + 1) (plain_at-none s n none)
+module _ (s : SceneValue) (beginning : State) where
+  -- the frames that are due, of the states by these numbers of steps
+  abbrev pub frames_at : List ℕ → List ℕ
+  frames_at ns = flat_map state_text (due_states s beginning ns)
 
--- the frame of the next number, where it is due
-next-frame : (s : SceneValue) (n : ℕ) (next : State) → plain_at s n ≡ Some next → next.step ≡ n → cond (is_due s n) (frame_at s n) [] ≡ due_text s next
-unfolding frame_at due_text
-next-frame s n next here step =
-    ap (λ o. cond (is_due s n) (option_map_or state_text o []) []) here ∙ ap (λ m. cond (is_due s m) (state_text next) []) (sym step)
+  -- the frame of a state that is reached, where it is due, and then the others
+  pub frames-more : (n : ℕ) (ns : List ℕ) (st : State) → run_after s beginning n ≡ Some st → frames_at (n ∷ ns) ≡ due_text s st ++ frames_at ns
+  unfolding due_states
+  frames-more n ns st here =
+      ap (λ o. flat_map state_text (cons_option (option_and_then (due_state s) o) (due_states s beginning ns))) here
+      ∙ frames-cons (due_state s st) (due_states s beginning ns)
+      ∙ ap (λ l. l ++ frames_at ns) (due-frame s st)
 
-frames-step : (s : SceneValue) (k n : ℕ) (r : Result State End) → plain_at s (n + 1) ≡ by_step Some (λ _. None) r → ((next : State) → r ≡ Ok next → next.step ≡ n + 1)
-    → ((next : State) → plain_at s (n + 1) ≡ Some next → next.step ≡ n + 1 → flat_map (frame_at s) (filter (is_due s) (range_with_len (n + 1 + 1) k)) ≡ frames_from s k next)
-    → flat_map (frame_at s) (filter (is_due s) (range_with_len (n + 1) (suc k))) ≡ by_step (λ next. due_text s next ++ frames_from s k next) (λ _. []) r
-frames-step s k n (Ok next) here step others =
-    flat_filter (frame_at s) (is_due s) (n + 1) (range_with_len (n + 1 + 1) k)
-    ∙ ap (λ l. l ++ flat_map (frame_at s) (filter (is_due s) (range_with_len (n + 1 + 1) k))) (next-frame s (n + 1) next here (step next refl))
-    ∙ ap (λ l. due_text s next ++ l) (others next here (step next refl))
-frames-step s k n (Err e) here step others = frames-none s (suc k) (n + 1) here
+  -- no frame after no state
+  frames-none : (k n : ℕ) → run_after s beginning n ≡ None → frames_at (range_with_len n k) ≡ []
+  unfolding due_states
+  frames-none zero n none = refl
+  frames-none (suc k) n none =
+      ap (λ o. flat_map state_text (cons_option (option_and_then (due_state s) o) (due_states s beginning (range_with_len (n + 1) k)))) none
+      ∙ frames-none k (n + 1) (run_after-none s beginning n none)
 
--- the frames that are due behind a state are those of the steps that are left
-pub frames-left : (s : SceneValue) (k n : ℕ) (st : State) → plain_at s n ≡ Some st → st.step ≡ n → n + k ≡ s.steps
-    → flat_map (frame_at s) (filter (is_due s) (range_with_len (n + 1) k)) ≡ frames_from s k st
-unfolding frames_from
-frames-left s zero n st here step left = refl
-frames-left s (suc k) n st here step left =
-    frames-step s k n (step_of s st) (plain_at-next s n st (omega arith) here) (λ next e. step_of-step s st next e ∙ ap (λ m. m + 1) step)
-    (λ next there number. frames-left s k (n + 1) next there number (omega arith))
+  frames-step : (k n : ℕ) (r : Result State End) → run_after s beginning (n + 1) ≡ by_step Some (λ _. None) r
+      → ((next : State) → r ≡ Ok next → run_after s beginning (n + 1) ≡ Some next → frames_at (range_with_len (n + 1 + 1) k) ≡ frames_from s k next)
+      → frames_at (range_with_len (n + 1) (suc k)) ≡ by_step (λ next. due_text s next ++ frames_from s k next) (λ _. []) r
+  frames-step k n (Ok next) here others =
+      frames-more (n + 1) (range_with_len (n + 1 + 1) k) next here ∙ ap (λ l. due_text s next ++ l) (others next refl here)
+  frames-step k n (Err e) here others = frames-none (suc k) (n + 1) here
 
--- ---- the end
+  -- the frames that are due behind a state are those of the steps that are left
+  pub frames-left : (k n : ℕ) (st : State) → run_after s beginning n ≡ Some st → st.step + k ≡ s.steps → frames_at (range_with_len (n + 1) k) ≡ frames_from s k st
+  unfolding frames_from due_states
+  frames-left zero n st here left = refl
+  frames-left (suc k) n st here left =
+      frames-step k n (step_of s st) (run_after-next s beginning n st (omega arith) here)
+      (λ next e there. frames-left k (n + 1) next there (omega (arith, step_of-step s st next e)))
 
-ends-step : (s : SceneValue) (k n : ℕ) (r : Result State End) → end_at s n ≡ result_err r
-    → ((next : State) → r ≡ Ok next → last_among s.steps (filter_map (end_at s) (range_with_len (n + 1) k)) ≡ last_from s k next)
-    → last_among s.steps (filter_map (end_at s) (range_with_len n (suc k))) ≡ by_step (λ next. last_from s k next) Passed r
-ends-step s k n (Ok next) end others =
-    ap (λ o. last_among s.steps (cons_option o (filter_map (end_at s) (range_with_len (n + 1) k)))) end ∙ others next refl
-ends-step s k n (Err e) end others =
-    ap (λ o. last_among s.steps (cons_option o (filter_map (end_at s) (range_with_len (n + 1) k)))) end
+  -- ---- the end
 
--- the limit that the step from a reached state passes
-end_at-here : (s : SceneValue) (n : ℕ) (st : State) → plain_at s n ≡ Some st → end_at s n ≡ result_err (step_of s st)
-unfolding end_at
-end_at-here s n st here = rw here
+  ends-step : (k n : ℕ) (r : Result State End) → end_after s beginning n ≡ result_err r
+      → ((next : State) → r ≡ Ok next → last_among s.steps (filter_map (end_after s beginning) (range_with_len (n + 1) k)) ≡ last_from s k next)
+      → last_among s.steps (filter_map (end_after s beginning) (range_with_len n (suc k))) ≡ by_step (λ next. last_from s k next) Passed r
+  ends-step k n (Ok next) end others =
+      ap (λ o. last_among s.steps (cons_option o (filter_map (end_after s beginning) (range_with_len (n + 1) k)))) end ∙ others next refl
+  ends-step k n (Err e) end others =
+      ap (λ o. last_among s.steps (cons_option o (filter_map (end_after s beginning) (range_with_len (n + 1) k)))) end
 
--- how the run ends is how the steps that are left end
-pub last-left : (s : SceneValue) (k n : ℕ) (st : State) → plain_at s n ≡ Some st → n + k ≡ s.steps
-    → last_among s.steps (filter_map (end_at s) (range_with_len n k)) ≡ last_from s k st
-unfolding last_from
-last-left s zero n st here left = refl
-last-left s (suc k) n st here left =
-    ends-step s k n (step_of s st) (end_at-here s n st here)
-    (λ next e. last-left s k (n + 1) next (plain_at-next s n st (omega arith) here ∙ ap (by_step Some (λ _. None)) e) (omega arith))
+  -- the limit that the step from a reached state passes
+  end-here : (n : ℕ) (st : State) → run_after s beginning n ≡ Some st → end_after s beginning n ≡ result_err (step_of s st)
+  unfolding end_after
+  end-here n st here = rw here
 
--- ---- the whole
+  -- how the run ends is how the steps that are left end
+  pub last-left : (k n : ℕ) (st : State) → run_after s beginning n ≡ Some st → st.step + k ≡ s.steps
+      → last_among s.steps (filter_map (end_after s beginning) (range_with_len n k)) ≡ last_from s k st
+  unfolding last_from
+  last-left zero n st here left = refl
+  last-left (suc k) n st here left =
+      ends-step k n (step_of s st) (end-here n st here)
+      (λ next e. last-left k (n + 1) next (run_after-next s beginning n st (omega arith) here ∙ ap (by_step Some (λ _. None)) e) (omega (arith, step_of-step s st next e)))
 
-starts-at : (s : SceneValue) → plain_at s 0 ≡ Some (first_state s)
-unfolding plain_at
-starts-at s = refl
+-- ---- the rest behind a state
 
-starts-zero : (s : SceneValue) → (first_state s).step ≡ 0
-unfolding first_state
-starts-zero s = refl
+-- how the run from a state ends, by the steps that are left
+pub last_after-left : (s : SceneValue) (st : State) → st.step ≤ s.steps → last_after s st ≡ last_from s (s.steps - st.step) st
+unfolding last_after
+last_after-left s st le = last-left s st (s.steps - st.step) 0 st (begins-at s st) (omega arith)
 
--- how a whole run ends
-pub last_of-first : (s : SceneValue) → last_from s s.steps (first_state s) ≡ last_of s
-unfolding last_of
-last_of-first s = sym (last-left s s.steps 0 (first_state s) (starts-at s) (omega arith))
-
--- the output of a whole run: the first frame, those of all steps, and the end row
-pub output_of-first : (s : SceneValue) → due_text s (first_state s) ++ (frames_from s s.steps (first_state s) ++ last_text (last_of s)) ≡ output_of s
-unfolding output_of
-output_of-first s =
-    sym (append_assoc (due_text s (first_state s)) (frames_from s s.steps (first_state s)) (last_text (last_of s)))
-    ∙ ap (λ l. l ++ last_text (last_of s))
-    (ap (λ l. due_text s (first_state s) ++ l) (sym (frames-left s s.steps 0 (first_state s) (starts-at s) (starts-zero s) (omega arith)))
-    ∙ ap (λ l. l ++ flat_map (frame_at s) (filter (is_due s) (range_with_len (0 + 1) s.steps))) (sym (next-frame s 0 (first_state s) (starts-at s) (starts-zero s)))
-    ∙ sym (flat_filter (frame_at s) (is_due s) 0 (range_with_len (0 + 1) s.steps))
-    ∙ ap (λ k. flat_map (frame_at s) (filter (is_due s) (range_with_len 0 k))) (sym (add-one s.steps)))
+-- what follows the frame of a state, by the steps that are left
+pub rest_of-left : (s : SceneValue) (st : State) → st.step ≤ s.steps → rest_of s st ≡ frames_from s (s.steps - st.step) st ++ last_text (last_after s st)
+unfolding rest_of run_text
+rest_of-left s st le = ap (λ l. l ++ last_text (last_after s st)) (frames-left s st (s.steps - st.step) 0 st (begins-at s st) (omega arith))

@@ -1,12 +1,13 @@
--- What the parts of a run write.
-use Rattle.std.specs.Prelude.{◌≡◌, ℕ, List, Option, Result, Ok, Err, None, Some}
+-- What the parts of a run write, and how what follows a state belongs to the whole.
+use Rattle.std.specs.Prelude.{◌≡◌, ℕ, ◌≤◌, true, List, ◌++◌, Option, Result, Ok, Err, None, Some}
 use Rattle.std.specs.Io.KnownBytes.{Appends, Keeps}
 use Rattle.dem_outside.specs.Faults.{Rose}
 use Rattle.dem_outside.specs.Known.{AppendsPrefix}
 use Rattle.dem_model.specs.SceneValue.{SceneValue}
 use Rattle.dem_model.specs.Step.{step_of}
-use Rattle.dem_model.specs.Plain.{last_of}
-use Rattle.dem_model.specs.Output.{due_text, output_of}
+use Rattle.dem_model.specs.Plain.{last_after, last_of, plain_at}
+use Rattle.dem_model.specs.Frames.{state_text}
+use Rattle.dem_model.specs.Output.{due_text, is_due, output_of, rest_of}
 use Rattle.dem_model.specs.declared.state.State.{State}
 use Rattle.dem_model.specs.declared.state.End.{End}
 use Rattle.dem_model.specs.declared.state.Last.{Last}
@@ -28,3 +29,17 @@ abbrev pub WritesRun : SceneValue → (held now : Option (List ℕ)) → (faults
 WritesRun s held now faults faults_now (Ok last) = (last ≡ last_of s) × Appends held now (output_of s) × (faults_now ≡ faults)
 WritesRun s held now faults faults_now (Err WriteFault) = AppendsPrefix held now (output_of s) × Rose faults faults_now
 WritesRun s held now faults faults_now (Err OutOfMemory) = AppendsPrefix held now (output_of s) × (faults_now ≡ faults)
+
+-- a run from a state: what follows the frame of that state, and how the run ended; or a prefix of that, and why
+abbrev pub WritesRest : SceneValue → State → (held now : Option (List ℕ)) → (faults faults_now : ℕ) → Result Last RunFault → Type 0
+WritesRest s st held now faults faults_now (Ok last) = (last ≡ last_after s st) × Appends held now (rest_of s st) × (faults_now ≡ faults)
+WritesRest s st held now faults faults_now (Err WriteFault) = AppendsPrefix held now (rest_of s st) × Rose faults faults_now
+WritesRest s st held now faults faults_now (Err OutOfMemory) = AppendsPrefix held now (rest_of s st) × (faults_now ≡ faults)
+
+-- from each state of the plain run the run ends as the plain run does
+abbrev pub EndsAlike : SceneValue → Type 0
+EndsAlike s = (n : ℕ) (st : State) → plain_at s n ≡ Some st → n ≤ s.steps → last_after s st ≡ last_of s
+
+-- behind each frame of the output comes what the run from the state of that frame writes
+abbrev pub GoesOnAlike : SceneValue → Type 0
+GoesOnAlike s = (n : ℕ) (st : State) → plain_at s n ≡ Some st → n ≤ s.steps → is_due s n ≡ true → (text : List ℕ) × (output_of s ≡ text ++ (state_text st ++ rest_of s st))

@@ -4,7 +4,7 @@ ghost use Rattle.dem_outside.specs.Faults.{Counts};
 ghost use Rattle.dem_outside.specs.Known.{PutAppends};
 ghost use Rattle.dem_model.specs.Output.{due_text, is_due as is_due_of};
 ghost use Rattle.dem_model.specs.Frames.{last_text};
-ghost use Rattle.dem_output.specs.Running.{MakesStep, WritesRun};
+ghost use Rattle.dem_output.specs.Running.{MakesStep, WritesRest, WritesRun};
 ghost use Rattle.dem_output.specs.declared.running.RunFault.TheVariants as faults;
 
 use dem_frame::{WriteFault, write_end, write_state};
@@ -40,8 +40,18 @@ impl From<OutOfMemory> for RunFault {
 pub fn write_run<K: Sink>(alloc: Global, scene: &Scene, out: &mut K) -> Result<Last, RunFault>
     ensures { WritesRun scene.now (K.held out.old) (K.held out.new) (K.faults out.old) (K.faults out.new) result }
 {
-    let mut run = PlainRun::new(alloc, scene)?;
+    let run = PlainRun::new(alloc, scene)?;
     write_due(scene, run.state(), out)?;
+    write_rest(scene, run, out)
+}
+
+/// Goes on with a run of a scene to its end, and writes what follows the frame of its state: the frames that are due of the states
+/// after it, and the end row. Answers how the run ended.
+pub fn write_rest<K: Sink>(scene: &Scene, mut run: PlainRun, out: &mut K) -> Result<Last, RunFault>
+    requires same { run.scene ≡ scene.now }
+    requires in_range { run.state.step ≤ scene.now.steps }
+    ensures { WritesRest scene.now run.entry.state (K.held out.old) (K.held out.new) (K.faults out.old) (K.faults out.new) result }
+{
     while run.state().step < scene.steps {
         if let Some(end) = step_on(scene, &mut run, out)? {
             return Ok(close(Last::Passed(end), out)?);

@@ -1,31 +1,26 @@
 -- One more pair among the meetings, and how large the loads are.
-use Rattle.std.proofs.Common.{◌≡◌, ℕ, zero, suc, ◌+◌, ◌*◌, ◌^◌, ◌<◌, ◌≤◌, List, [], ◌∷◌, ◌++◌, length, get_or, map, replicate, refl, sym, ap, ◌∙◌, arith, subst, zero-add, Bool, true, false, inl, inr, Option, Some, None}
-use Rattle.std.specs.Prelude.{if◌then◌else◌, All, ◌&&◌, ◌==◌, IfSome}
-use Rattle.std.specs.List.{filter_map, cons_option, range_with_len}
-use Rattle.std.specs.Option.{option_map, unwrap_or}
+use Rattle.std.proofs.Common.{◌≡◌, ℕ, zero, suc, ◌+◌, ◌*◌, ◌^◌, ◌<◌, ◌≤◌, List, [], ◌∷◌, ◌++◌, length, get_or, map, replicate, refl, sym, ap, ◌∙◌, arith, subst, zero-add, true, false, Some, None}
+use Rattle.std.specs.Prelude.{All}
+use Rattle.std.specs.List.{cons_option, range_with_len}
 use Rattle.std.proofs.lemmas.List.{append-nil, append_assoc, map_push, ext_get_or, length-replicate, get_or-replicate}
 use Rattle.std.proofs.lemmas.List.FromFn.{get_or-map-range_with_len, length-map-range_with_len}
-use Rattle.std.proofs.lemmas.List.Elements.{filter_map-append, All-append, All-push, All-nil}
+use Rattle.std.proofs.lemmas.List.Elements.{filter_map-append, All-push, All-nil}
 use Rattle.dem_num.specs.declared.vector.Vec3.{Vec3}
 use Rattle.dem_num.proofs.VectorSizes.{within_wider}
 use Rattle.dem_model.specs.SceneValue.{SceneValue}
 use Rattle.dem_model.specs.Sound.{IsSound}
-use Rattle.dem_model.specs.Motion.{IsPair}
 use Rattle.dem_model.specs.Pairs.{sphere_count, limit_of, pair_of, apart, row_below, pairs_below, all_pairs}
 use Rattle.dem_model.specs.Ranges.{IsSmall}
-use Rattle.dem_model.specs.Centers.{touch_of}
-use Rattle.dem_model.specs.declared.law.Touch.{Touch}
-use Rattle.dem_num.specs.Vectors.{narrowed, no_vector}
-use Rattle.dem_model.specs.Step.{Meeting, meeting, meetings, push_of, held_at, held_in, no_load, load_on, loads_of}
+use Rattle.dem_model.specs.Step.{Meeting, meeting, meetings, held_at, held_in, no_load, load_on, loads_of}
 use Rattle.dem_model.specs.declared.law.Load.{Load}
 use Rattle.dem_model.specs.declared.law.Push.{Push}
 use Rattle.dem_model.specs.declared.state.Body.{Body}
 use Rattle.dem_model.specs.declared.state.Held.{Held}
 use Rattle.dem_model.specs.declared.state.Pair.{Pair}
-use Rattle.dem_model.proofs.PairFacts.{row_below-more, row_below-start, pairs_below-more, pairs_below-none}
+use Rattle.dem_model.proofs.PairFacts.{row_below-more, row_below-start, pairs_below-more}
 use Rattle.dem_model.proofs.CountFacts.{pair_count-visited, pair_count-all}
 use Rattle.dem_model.specs.Counts.{pair_count, most_pairs}
-use Rattle.dem_model.proofs.LoadFacts.{loads_of-push, length-loads_of, IsLoadOf, pairs_in, meetings_count, load_on-within}
+use Rattle.dem_model.proofs.LoadFacts.{loads_of-push, length-loads_of, IsLoadOf, meetings_count, load_on-within}
 use Rattle.dem_model.specs.Step.{loads_with}
 use Rattle.dem_force.specs.Loads.{CanGrow, AreLoads}
 use Rattle.dem_plain.specs.declared.met.Met.{Met}

@@ -1,3 +1,2 @@
 pub mod HoldsFacts
 pub mod RunFacts
-pub mod FitFacts

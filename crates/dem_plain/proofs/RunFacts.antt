@@ -1,14 +1,12 @@
 -- Steps of the run: the bodies one by one, the next state, the first state.
-use Rattle.std.proofs.Common.{◌≡◌, ℕ, zero, suc, ◌+◌, ◌^◌, ◌<◌, ◌≤◌, List, [], ◌∷◌, ◌++◌, length, get_or, map, drop, refl, sym, ap, ◌∙◌, arith, subst, Bool, true, false, cond, inl, inr, Option, Some, None, Result, Ok, Err, add-zero, add-one}
-use Rattle.std.specs.Prelude.{if◌then◌else◌, All, IfOk, nat_lt, find}
-use Rattle.std.specs.Option.{option_map, unwrap_or}
-use Rattle.std.specs.Result.{result_ok}
-use Rattle.std.specs.Prelude.{option_and_then}
+use Rattle.std.proofs.Common.{◌≡◌, ℕ, suc, ◌+◌, ◌<◌, ◌≤◌, List, [], ◌∷◌, ◌++◌, length, get_or, map, drop, refl, sym, ap, ◌∙◌, arith, subst, Bool, true, false, cond, inl, inr, Some, None, Result, Ok, Err, add-one}
+use Rattle.std.specs.Prelude.{All, IfOk, find}
+use Rattle.std.specs.Option.{option_map}
 use Rattle.std.proofs.lemmas.Bool.{lt-ltb, cases_lt}
 use Rattle.std.proofs.lemmas.List.Elements.{All-map, All-nil}
 use Rattle.std.proofs.lemmas.List.{append-nil, append_assoc, get_or_default, drop_more, drop_all, length-map, get_or-map, get_or_push, get_or_append_left, length_push}
 use Rattle.dem_num.specs.declared.vector.Vec3.{Vec3}
-use Rattle.dem_num.specs.Vectors.{widened, narrowed, no_vector, Within}
+use Rattle.dem_num.specs.Vectors.{widened, Within}
 use Rattle.dem_model.specs.SceneValue.{SceneValue}
 use Rattle.dem_model.specs.Sound.{IsSound, IsBodyOf}
 use Rattle.dem_model.specs.Centers.{body_at, still_body, centers_of, placed}
@@ -17,7 +15,7 @@ use Rattle.dem_model.specs.Pairs.{all_pairs, sphere_count}
 use Rattle.dem_model.specs.Advance.{advance_of}
 use Rattle.dem_model.specs.Plain.{first_state, state_after, run_after, plain_at}
 use Rattle.dem_model.specs.Ranges.{IsSmall}
-use Rattle.dem_model.specs.Step.{Meeting, meetings, held_in, no_load, no_clump, clump_at, ended, joined, advanced_from, state_with, step_with, step_of, loads_of, same_pair, held_at}
+use Rattle.dem_model.specs.Step.{Meeting, meetings, held_in, no_clump, clump_at, ended, joined, advanced_from, state_with, step_with, step_of, loads_of, same_pair, held_at}
 use Rattle.dem_model.specs.declared.law.Load.{Load}
 use Rattle.dem_model.specs.declared.state.Body.{Body}
 use Rattle.dem_model.specs.declared.state.Clump.{Clump}
@@ -26,7 +24,6 @@ use Rattle.dem_model.specs.declared.state.EndKind.{EndKind}
 use Rattle.dem_model.specs.declared.state.Held.{Held}
 use Rattle.dem_model.specs.declared.state.Pair.{Pair}
 use Rattle.dem_model.specs.declared.state.State.{State}
-use Rattle.dem_model.proofs.SoundFacts.{clump_at-sound}
 use Rattle.dem_shape.specs.Matrices.{AreMatrices}
 use Rattle.dem_force.specs.Places.{HasPlaces}
 use Rattle.dem_force.specs.Sides.{AreSides}

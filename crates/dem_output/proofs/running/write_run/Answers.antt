@@ -1,64 +1,17 @@
-use Rattle.std.proofs.Common.{◌≡◌, ℕ, ◌<◌, ◌≤◌, ap, ◌∙◌, arith}
 use Rattle.std.proofs.lemmas.Result.{err_from_is_err_and}
-use Rattle.dem_model.specs.SceneValue.{SceneValue}
-use Rattle.dem_model.specs.declared.state.State.{State}
-use Rattle.dem_output.proofs.RunFacts.{StandsAt-done, LacksEnd-closed, LacksEnd-failed}
-use Rattle.dem_output.proofs.LoopFacts.{begun, not-begun, goes-on, comes-nearer, comes-to-end, stopped, Rose-from}
+use Rattle.dem_output.proofs.LoopFacts.{at-first, not-begun, whole-run}
 use Rattle.dem_output.proofs.running.write_run.Goals as goal
-
--- the loop's test read the number of the run's state and the steps of the scene
-below : (n : ℕ) (s : SceneValue) (read here : State) → n ≡ s.steps → read ≡ here → read.step < n → here.step < s.steps
-below n s read here steps same lt = omega (arith, ap (λ (st : State). st.step) same)
-
-above : (n : ℕ) (read here : State) → read ≡ here → n ≤ read.step → n ≤ here.step
-above n read here same le = omega (arith, ap (λ (st : State). st.step) same)
 
 pub returns-in_err-write_due : goal.returns-in_err-write_due
 returns-in_err-write_due g c =
     let p = err_from_is_err_and c.from_residual-in_err-write_due.result c.from_residual-in_err-write_due.ensures.1 in rw (p.1, p.2)
     (not-begun _ _ _ _ _ c.in_ok-run.ensures c.state.ensures.value c.in_err-write_due.ensures.written, c.in_err-write_due.ensures.count)
 
-pub loop-scene-init : goal.loop-scene-init
-loop-scene-init g c = begun _ _ _ _ _ _ _ c.in_ok-run.ensures c.state.ensures.value c.in_ok-write_due.ensures.written c.in_ok-write_due.ensures.count
+pub write_rest-requires-clause-same : goal.write_rest-requires-clause-same
+write_rest-requires-clause-same g c = (at-first _ _ c.in_ok-run.ensures).0
 
-pub returns-in_err-end : goal.returns-in_err-end
-returns-in_err-end g c =
-    let p = err_from_is_err_and c.from_residual-in_err-end.result c.from_residual-in_err-end.ensures.1 in
-    let lt = below _ c.args.scene.now _ _ (ap (λ (s : SceneValue). s.steps) c.scene.view_is) c.state-in-loop-scene.ensures.value c.loop-scene-test.true in
-    rw (p.1, p.2) (stopped _ _ _ _ _ _ _ c.loop-scene.run c.step_on.new.run c.loop-scene.invariant lt _ c.in_err-end.ensures)
-
-pub returns-in_err-close : goal.returns-in_err-close
-returns-in_err-close g c =
-    let p = err_from_is_err_and c.from_residual-in_err-close.result c.from_residual-in_err-close.ensures.1 in
-    let lt = below _ c.args.scene.now _ _ (ap (λ (s : SceneValue). s.steps) c.scene.view_is) c.state-in-loop-scene.ensures.value c.loop-scene-test.true in
-    let end = comes-to-end _ _ _ _ _ _ _ _ _ c.loop-scene.invariant lt _ _ c.in-Some.is c.in_ok-end.ensures in
-    rw (p.1, p.2) (LacksEnd-failed _ _ _ _ _ end.0 c.in_err-close.ensures.written, Rose-from _ _ _ end.1 c.in_err-close.ensures.count)
-
-pub returns-in-Some : goal.returns-in-Some
-returns-in-Some g c =
-    let lt = below _ c.args.scene.now _ _ (ap (λ (s : SceneValue). s.steps) c.scene.view_is) c.state-in-loop-scene.ensures.value c.loop-scene-test.true in
-    let end = comes-to-end _ _ _ _ _ _ _ _ _ c.loop-scene.invariant lt _ _ c.in-Some.is c.in_ok-end.ensures in
-    (c.in_ok-close.ensures.value ∙ end.0.ends, LacksEnd-closed _ _ _ _ _ end.0 c.in_ok-close.ensures.written, c.in_ok-close.ensures.count ∙ end.1)
-
-pub loop-scene-smaller : goal.loop-scene-smaller
-loop-scene-smaller g c =
-    let lt = below _ c.args.scene.now _ _ (ap (λ (s : SceneValue). s.steps) c.scene.view_is) c.state-in-loop-scene.ensures.value c.loop-scene-test.true in
-    comes-nearer _ _ _ _ _ _ _ _ _ c.loop-scene.invariant lt _ c.in_default.is c.in_ok-end.ensures
-
-pub loop-scene-preserved : goal.loop-scene-preserved
-loop-scene-preserved g c =
-    let lt = below _ c.args.scene.now _ _ (ap (λ (s : SceneValue). s.steps) c.scene.view_is) c.state-in-loop-scene.ensures.value c.loop-scene-test.true in
-    goes-on _ _ _ _ _ _ _ _ _ c.loop-scene.invariant lt _ c.in_default.is c.in_ok-end.ensures
-
-pub returns-in_err-close-2 : goal.returns-in_err-close-2
-returns-in_err-close-2 g c =
-    let p = err_from_is_err_and c.from_residual-in_err-close-2.result c.from_residual-in_err-close-2.ensures.1 in
-    let le = above _ _ _ c.state-in-loop-scene.ensures.value c.loop-scene-test.false in
-    let end = StandsAt-done _ _ _ _ _ c.loop-scene.invariant.stands (ap (λ (s : SceneValue). s.steps) c.scene.view_is) le in
-    rw (p.1, p.2) (LacksEnd-failed _ _ _ _ _ end c.in_err-close-2.ensures.written, Rose-from _ _ _ c.loop-scene.invariant.count c.in_err-close-2.ensures.count)
+pub write_rest-requires-clause-in_range : goal.write_rest-requires-clause-in_range
+write_rest-requires-clause-in_range g c = (at-first _ _ c.in_ok-run.ensures).2
 
 pub returns : goal.returns
-returns g c =
-    let le = above _ _ _ c.state-in-loop-scene.ensures.value c.loop-scene-test.false in
-    let end = StandsAt-done _ _ _ _ _ c.loop-scene.invariant.stands (ap (λ (s : SceneValue). s.steps) c.scene.view_is) le in
-    (c.in_ok-close-2.ensures.value ∙ end.ends, LacksEnd-closed _ _ _ _ _ end c.in_ok-close-2.ensures.written, c.in_ok-close-2.ensures.count ∙ c.loop-scene.invariant.count)
+returns g c = whole-run _ _ _ _ _ _ _ _ _ _ c.in_ok-run.ensures c.state.ensures.value c.in_ok-write_due.ensures.written c.in_ok-write_due.ensures.count c.write_rest.ensures

@@ -1,7 +1,5 @@
-use Rattle.std.proofs.Common.{◌≡◌, length, get_or, sym, ap, ◌∙◌, subst, refl, arith}
+use Rattle.std.proofs.Common.{◌≡◌, length, sym, ap, ◌∙◌, arith}
 use Rattle.dem_model.specs.SceneValue.{SceneValue}
-use Rattle.dem_model.specs.Sound.{IsBodyOf}
-use Rattle.dem_model.specs.Step.{clump_at}
 use Rattle.dem_plain.proofs.RunFacts.{AreAdvanced-more, advanced_ends, advanced_all, body_sound}
 use Rattle.dem_plain.proofs.advancing.advanced.Goals as goal
 

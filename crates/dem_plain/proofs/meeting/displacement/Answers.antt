@@ -1,4 +1,4 @@
-use Rattle.std.proofs.Common.{◌≡◌, sym, ◌∙◌}
+use Rattle.std.proofs.Common.{sym, ◌∙◌}
 use Rattle.dem_plain.proofs.RunFacts.{held_found, held_passed, held_none}
 use Rattle.dem_plain.proofs.meeting.displacement.Goals as goal
 

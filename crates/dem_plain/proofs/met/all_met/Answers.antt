@@ -1,4 +1,4 @@
-use Rattle.std.proofs.Common.{◌≡◌, arith}
+use Rattle.std.proofs.Common.{arith}
 use Rattle.dem_model.proofs.PairFacts.{pairs_below-none}
 use Rattle.dem_plain.proofs.HoldsFacts.{Holds-whole}
 use Rattle.dem_plain.proofs.met.all_met.Goals as goal

@@ -1,4 +1,4 @@
-use Rattle.std.proofs.Common.{◌≡◌, ◌+◌, ◌≤◌, arith}
+use Rattle.std.proofs.Common.{◌+◌, ◌≤◌, arith}
 use Rattle.dem_model.specs.Pairs.{sphere_count, limit_of}
 use Rattle.dem_plain.proofs.HoldsFacts.{Holds-row, Holds-place, Holds-rows, loads-visited}
 use Rattle.dem_plain.proofs.met.meet_row.Goals as goal

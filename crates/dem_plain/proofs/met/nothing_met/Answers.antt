@@ -1,4 +1,4 @@
-use Rattle.std.proofs.Common.{◌≡◌, length, refl}
+use Rattle.std.proofs.Common.{length, refl}
 use Rattle.dem_plain.proofs.HoldsFacts.{Holds-nothing}
 use Rattle.dem_plain.proofs.met.nothing_met.Goals as goal
 

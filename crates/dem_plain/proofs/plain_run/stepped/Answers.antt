@@ -1,4 +1,4 @@
-use Rattle.std.proofs.Common.{◌≡◌, sym, ap, ◌∙◌, subst, List}
+use Rattle.std.proofs.Common.{sym, subst, List}
 use Rattle.dem_model.specs.Motion.{AreInside}
 use Rattle.dem_model.proofs.SoundFacts.{centers_of-inside}
 use Rattle.dem_model.specs.declared.state.Body.{Body}

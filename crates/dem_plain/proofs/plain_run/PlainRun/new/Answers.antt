@@ -1,4 +1,3 @@
-use Rattle.std.proofs.Common.{◌≡◌, true, ap, ◌∙◌}
 use Rattle.dem_plain.proofs.RunFacts.{begins_sound, begins_plain, begins_stored, begins_run}
 use Rattle.dem_plain.proofs.plain_run.PlainRun.new.Goals as goal
 

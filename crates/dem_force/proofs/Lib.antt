@@ -11,3 +11,4 @@ pub mod SwingFacts
 pub mod SwingLaw
 pub mod TouchFacts
 pub mod NothingFacts
+pub mod StillSpinFacts

@@ -14,7 +14,7 @@ ghost use Rattle.dem_model.specs.Sound.{IsSound, IsTemplate, IsBody, IsBodyOf};
 ghost use Rattle.dem_model.specs.Step.{clump_at};
 ghost use Rattle.dem_force.specs.Placed.{IsPlaced};
 
-use crate::advancing::body::{body_torque, spin, velocity};
+use crate::advancing::body::{next_spin, velocity};
 use crate::advancing::limits::within_limits;
 use dem_model::{Body, Clump, EndKind, Scene, Template};
 use dem_num::{Rows, Wide3};
@@ -112,6 +112,6 @@ fn advance_as(
     ensures unswung { IfErr result (λ e. e ≢ EndKind.Swing) }
 {
     let v = velocity(scene.gravity, template.mass, body.v, force);
-    let w = spin(template.moments, body.w, body_torque(body, rows, torque));
+    let w = next_spin(template.moments, body, rows, torque);
     within_limits(scene, template.balls.as_slice(), body, v, w)
 }

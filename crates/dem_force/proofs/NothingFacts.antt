@@ -1,5 +1,5 @@
 -- What is nothing stays nothing: a contact without spin, without displacement and slip, and without a tangential force.
-use Rattle.std.proofs.Common.{◌≡◌, ℕ, ℤ, pos, ◌*◌, ◌^◌, true, refl, ap, ap₂, ◌∙◌, arith}
+use Rattle.std.proofs.Common.{◌≡◌, ℕ, ℤ, pos, ◌*◌, true, refl, ap, ap₂, ◌∙◌, arith}
 use Rattle.std.specs.Prelude.{◌-ℤ◌, ◌*ℤ◌, nat_le, ◌==◌, if◌then◌else◌}
 use Rattle.std.proofs.lemmas.Bool.Decides.{nat_tests}
 use Rattle.dem_num.specs.declared.vector.Vec3.{Vec3}

@@ -1,5 +1,5 @@
 -- A body that neither spins nor is turned keeps no spin.
-use Rattle.std.proofs.Common.{◌≡◌, ◌/◌, ℤ, pos, true, refl, ap, ◌∙◌, arith, unsigned_abs}
+use Rattle.std.proofs.Common.{◌≡◌, ℤ, pos, true, refl, ap, ◌∙◌, arith, unsigned_abs}
 use Rattle.std.specs.Prelude.{◌+ℤ◌, ◌-ℤ◌, ◌*ℤ◌}
 use Rattle.std.proofs.Math.Nat.{zero-div}
 use Rattle.dem_num.specs.declared.vector.Vec3.{Vec3}

@@ -126,3 +126,8 @@ unfolding loaded_of
 frame-loads s sound st fit =
     ap (then_checked s) (state_frame st (length s.clumps) (fit-writable s st sound fit) (sym fit.bodies.count))
     ∙ fit-checked s st fit
+
+-- the rows of a fit state load as that state
+pub rows-load : (s : SceneValue) (bytes : List ℕ) (st : State) → frame_of (length s.clumps) bytes ≡ Ok st → IsFit s st → loaded_of s bytes ≡ Ok st
+unfolding loaded_of
+rows-load s bytes st rows fit = ap (then_checked s) rows ∙ fit-checked s st fit

@@ -5,8 +5,8 @@ ghost use Rattle.dem_num.specs.Vectors.{widened, Within};
 ghost use Rattle.dem_model.specs.Motion.{AreSound, IsPair};
 ghost use Rattle.dem_model.specs.Pairs.{sphere_count};
 ghost use Rattle.dem_model.specs.declared.limits.TheConstants.{MAX_DISPLACEMENT};
-ghost use Rattle.dem_model.specs.Ranges.{IsTouch, IsSmall, wall_side_of};
-ghost use Rattle.dem_model.specs.Step.{push_of};
+ghost use Rattle.dem_model.specs.Ranges.{IsTouch, IsSecond, IsSmall, wall_side_of};
+ghost use Rattle.dem_model.specs.Step.{push_of, second_side_of};
 ghost use Rattle.dem_force.specs.Sides.{AreSides};
 ghost use Rattle.dem_shape.specs.Matrices.{AreMatrices};
 
@@ -71,7 +71,7 @@ impl Sides {
 
 /// What a touching pair does, from sides that were made from these bodies, with the displacement that is stored for it.
 /// The bodies aren't looked at again: they stand here for what is promised.
-#[tactic(auto, unfolding(dem_model::specs::Step::push_of, dem_model::specs::Step::second_side_of))]
+#[tactic(auto, unfolding(dem_model::specs::Step::push_of))]
 pub fn push_from(
     shapes: &Shapes,
     bodies: &[Body],
@@ -87,12 +87,33 @@ pub fn push_from(
     ensures value { result ≡ push_of shapes.now bodies.now pair touch h }
     ensures size { IsSmall result }
 {
-    let _made_from = bodies;
     let law = law_between(shapes, pair);
     let first = sides.get(pair.a);
+    let wall = wall_side();
+    let second = second_of(shapes, bodies, sides, &wall, pair);
+    contact(&law, first, second, touch, h)
+}
+
+/// The second side of a pair: that of its sphere, or this one, which is a wall's.
+#[tactic(auto, unfolding(dem_model::specs::Step::second_side_of))]
+fn second_of<'a>(
+    shapes: &Shapes,
+    bodies: &[Body],
+    sides: &'a Sides,
+    wall: &'a Side,
+    pair: Pair,
+) -> &'a Side
+    requires pair { IsPair shapes.now pair }
+    requires sides { AreSides shapes.now bodies.now sides.now }
+    requires wall { wall.now ≡ wall_side_of }
+    requires second { IsSecond wall.now }
+    ensures value { result.now ≡ second_side_of shapes.now bodies.now pair }
+    ensures second { IsSecond result.now }
+{
+    let _made_from = bodies;
     if pair.b < shapes.spheres() {
-        contact(&law, first, sides.get(pair.b), touch, h)
+        sides.get(pair.b)
     } else {
-        contact(&law, first, &wall_side(), touch, h)
+        wall
     }
 }

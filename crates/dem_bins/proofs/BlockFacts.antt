@@ -1,29 +1,26 @@
 -- The greatest reach of a scene, the blocks of its spheres, and their sizes.
-use Rattle.std.proofs.Common.{◌≡◌, ℕ, zero, suc, ◌+◌, ◌*◌, ◌/◌, ◌%◌, ◌-◌, ◌^◌, ◌<◌, ◌≤◌, List, [], ◌∷◌, ◌++◌, length, map, get_or, refl, sym, ap, ap₂, ◌∙◌, arith, subst, zero-add, unsigned_abs, ℤ, pos, ◌≤ℤ◌, inl, inr, Some}
-use Rattle.std.specs.Prelude.{All, max}
+use Rattle.std.proofs.Common.{◌≡◌, ℕ, ◌+◌, ◌*◌, ◌/◌, ◌%◌, ◌-◌, ◌^◌, ◌<◌, ◌≤◌, List, [], ◌∷◌, length, map, refl, sym, ap, ◌∙◌, arith, subst, zero-add, unsigned_abs, ℤ, pos, ◌≤ℤ◌, inl, inr}
+use Rattle.std.specs.Prelude.{max}
 use Rattle.std.specs.List.{Contains, fold, range_with_len}
 use Rattle.std.proofs.lemmas.Nat.{mul-le, le-div, div_below, div-add-mod', mod_below}
 use Rattle.std.proofs.lemmas.Int.{ints}
 use Rattle.std.proofs.lemmas.List.{length-append, length-map}
-use Rattle.std.proofs.lemmas.List.Elements.{Contains-get_or}
 use Rattle.std.proofs.lemmas.List.FromFn.{length-map-range_with_len, get_or-map-range_with_len, map-range_with_len_more}
 use Rattle.std.proofs.lemmas.List.Sums.{fold_push}
 use Rattle.dem_num.specs.declared.vector.Vec3.{Vec3}
 use Rattle.dem_model.specs.SceneValue.{SceneValue}
 use Rattle.dem_model.specs.Sound.{IsSound, IsBetween, EachBetween}
 use Rattle.dem_model.specs.Spheres.{spheres_of, spheres_from, spheres_of_clump, balls_of, sphere_of}
-use Rattle.dem_model.specs.Pairs.{sphere_count, sphere_at}
+use Rattle.dem_model.specs.Pairs.{sphere_count}
 use Rattle.dem_model.specs.Centers.{center_at}
 use Rattle.dem_model.specs.Near.{reach_of}
 use Rattle.dem_model.specs.Step.{clump_at}
 use Rattle.dem_model.specs.declared.state.Clump.{Clump}
 use Rattle.dem_model.proofs.SoundFacts.{sphere_at-sound, has_template, clump_at-sound}
 use Rattle.dem_bins.specs.Bins.{GridValue, greatest_reach, cells_across, IsGridOf}
-use Rattle.dem_bins.specs.Blocks.{span_of, block_of, blocks_of, block_at, no_block, IsSpan, IsBlock}
+use Rattle.dem_bins.specs.Blocks.{interval_of, cells_of, block_of, blocks_of, block_at, no_block, IsSpan, IsBlock}
 use Rattle.dem_bins.specs.declared.blocks.Block.{Block}
-use Rattle.dem_bins.specs.declared.blocks.Span.{Span}
-use Rattle.dem_bins.specs.declared.keys.TheConstants.{CELLS}
-use Rattle.dem_bins.proofs.SumFacts.{range-more}
+use Rattle.dem_bins.specs.declared.blocks.TheConstants.{WIDE}
 use Rattle.dem_bins.proofs.ListFacts.{has-cases, none-has, map-has, range-has}
 
 -- ---- the greatest of some numbers
@@ -93,11 +90,11 @@ reach_of-bins s g i grid l =
 pub div-le : (m n k : ℕ) → 0 < k → m ≤ n → m / k ≤ n / k
 div-le m n k some le = le-div (m / k) n k some (omega (arith, div-add-mod' m k))
 
-pub span_of-good : (bin reach c : ℕ) → 0 < bin → reach ≤ 4 * bin → c ≤ 2 ^ 36 → IsSpan (span_of bin reach c)
-unfolding span_of
-span_of-good bin reach c some near inside = record {
-  order = div-le (c + 4 * bin - reach) (c + 4 * bin + reach) bin some (omega arith);
-  small = omega (arith, div_below (c + 4 * bin + reach) bin (2 ^ 36 + 9) some (omega arith));
+pub cells_of-good : (side bin reach c : ℕ) → 0 < side → bin ≤ side → reach ≤ 4 * bin → c ≤ 2 ^ 36 → IsSpan (cells_of side (interval_of bin reach c))
+unfolding cells_of interval_of
+cells_of-good side bin reach c some wide near inside = record {
+  order = div-le (c + 4 * bin - reach) (c + 4 * bin + reach) side some (omega arith);
+  small = omega (arith, div_below (c + 4 * bin + reach) side (2 ^ 36 + 9) some (omega arith));
 }
 
 inside-size : (z : ℤ) → IsBetween (pos 0) (pos (2 ^ 36)) z → unsigned_abs z ≤ 2 ^ 36
@@ -108,9 +105,9 @@ unfolding block_of
 block_of-good s g cs i grid l inside =
     let reach : reach_of s g.drift i ≤ 4 * g.bin = reach_of-bins s g i grid l in
     record {
-      x = span_of-good g.bin (reach_of s g.drift i) (unsigned_abs (center_at cs i).x) grid.some reach (inside-size (center_at cs i).x inside.x);
-      y = span_of-good g.bin (reach_of s g.drift i) (unsigned_abs (center_at cs i).y) grid.some reach (inside-size (center_at cs i).y inside.y);
-      z = span_of-good g.bin (reach_of s g.drift i) (unsigned_abs (center_at cs i).z) grid.some reach (inside-size (center_at cs i).z inside.z);
+      x = cells_of-good (g.bin * WIDE) g.bin (reach_of s g.drift i) (unsigned_abs (center_at cs i).x) (omega (arith, grid.some)) (omega arith) reach (inside-size (center_at cs i).x inside.x);
+      y = cells_of-good (g.bin * WIDE) g.bin (reach_of s g.drift i) (unsigned_abs (center_at cs i).y) (omega (arith, grid.some)) (omega arith) reach (inside-size (center_at cs i).y inside.y);
+      z = cells_of-good g.bin g.bin (reach_of s g.drift i) (unsigned_abs (center_at cs i).z) grid.some (omega arith) reach (inside-size (center_at cs i).z inside.z);
     }
 
 pub blocks_of-count : (s : SceneValue) (g : GridValue) (cs : List Vec3) → length (blocks_of s g cs) ≡ sphere_count s
@@ -120,3 +117,33 @@ blocks_of-count s g cs = length-map-range_with_len (block_of s g cs) 0 (sphere_c
 pub blocks_of-at : (s : SceneValue) (g : GridValue) (cs : List Vec3) (i : ℕ) → i < sphere_count s → block_at (blocks_of s g cs) i ≡ block_of s g cs i
 unfolding blocks_of block_at
 blocks_of-at s g cs i l = get_or-map-range_with_len (block_of s g cs) 0 (sphere_count s) i i no_block l (zero-add i)
+
+-- ---- what a block says of its box
+
+-- the columns of a block are those that its box meets
+pub record IsWide (bin : ℕ) (b : Block) : Type 0 where
+  pub x : b.x ≡ cells_of (bin * WIDE) b.across
+  pub y : b.y ≡ cells_of (bin * WIDE) b.along
+  pub across : b.across.low ≤ b.across.high
+  pub along : b.along.low ≤ b.along.high
+
+interval_of-order : (bin reach c : ℕ) → (interval_of bin reach c).low ≤ (interval_of bin reach c).high
+unfolding interval_of
+interval_of-order bin reach c = omega arith
+
+pub block_of-wide : (s : SceneValue) (g : GridValue) (cs : List Vec3) (i : ℕ) → IsWide g.bin (block_of s g cs i)
+unfolding block_of
+block_of-wide s g cs i = record {
+  x = refl;
+  y = refl;
+  across = interval_of-order g.bin (reach_of s g.drift i) (unsigned_abs (center_at cs i).x);
+  along = interval_of-order g.bin (reach_of s g.drift i) (unsigned_abs (center_at cs i).y);
+}
+
+-- so are those of the blocks of all spheres
+abbrev pub AreWide : ℕ → List Block → Type 0
+AreWide bin bs = (i : ℕ) → i < length bs → IsWide bin (block_at bs i)
+
+pub blocks_of-wide : (s : SceneValue) (g : GridValue) (cs : List Vec3) → AreWide g.bin (blocks_of s g cs)
+blocks_of-wide s g cs i l =
+    subst (IsWide g.bin) (sym (blocks_of-at s g cs i (omega (arith, blocks_of-count s g cs)))) (block_of-wide s g cs i)

@@ -1,13 +1,11 @@
 -- Cells without sign are the floors of quotients, four more: spans share as many cells as the intervals that they stand for.
-use Rattle.std.proofs.Common.{◌≡◌, ℕ, zero, suc, ◌+◌, ◌*◌, ◌/◌, ◌%◌, ◌-◌, ◌<◌, ◌≤◌, refl, sym, ap, ap₂, ◌∙◌, arith, subst, ℤ, pos, negsuc, ◌+ℤ◌, ◌-ℤ◌, unsigned_abs, inl, inr}
+use Rattle.std.proofs.Common.{◌≡◌, ℕ, ◌+◌, ◌*◌, ◌/◌, ◌%◌, ◌-◌, ◌<◌, ◌≤◌, sym, ap, ◌∙◌, arith, subst, ℤ, pos, negsuc, ◌+ℤ◌, ◌-ℤ◌, unsigned_abs}
 use Rattle.std.specs.Prelude.{min, max}
-use Rattle.std.specs.Int.{int_div_euclid, int_min, int_max}
-use Rattle.std.proofs.lemmas.Bool.{cases_lt}
+use Rattle.std.specs.Int.{int_min, int_max}
 use Rattle.std.proofs.lemmas.Int.{ints, clamps}
-use Rattle.std.proofs.lemmas.Nat.{mul-le, le-div, div_below, div-add-mod', div-mul-add, mod_below}
+use Rattle.std.proofs.lemmas.Nat.{div_below, div-add-mod', div-mul-add, mod_below}
 use Rattle.dem_bins.specs.Bins.{cell_at, cells_shared}
-use Rattle.dem_bins.specs.Blocks.{span_of}
-use Rattle.dem_bins.specs.declared.blocks.Span.{Span}
+use Rattle.dem_bins.specs.Blocks.{interval_of, cells_of}
 use Rattle.dem_bins.proofs.KeyFacts.{shared_on}
 
 -- four bins more are four cells more
@@ -51,8 +49,8 @@ shared-four l h m i a b c d p q r t = omega (arith, ints, clamps)
 
 -- spans share as many cells as the intervals
 pub shared_on-is : (bin r q : ℕ) (c d : ℤ) → 0 < bin → r ≤ 4 * bin → q ≤ 4 * bin → pos (unsigned_abs c) ≡ c → pos (unsigned_abs d) ≡ d →
-    shared_on (span_of bin r (unsigned_abs c)) (span_of bin q (unsigned_abs d)) ≡ cells_shared bin c r d q
-unfolding shared_on span_of cells_shared
+    shared_on (cells_of bin (interval_of bin r (unsigned_abs c))) (cells_of bin (interval_of bin q (unsigned_abs d))) ≡ cells_shared bin c r d q
+unfolding shared_on cells_of interval_of cells_shared
 shared_on-is bin r q c d some rl ql cp dp =
     shared-four (cell_at bin (c -ℤ pos r)) (cell_at bin (c +ℤ pos r)) (cell_at bin (d -ℤ pos q)) (cell_at bin (d +ℤ pos q))
     ((unsigned_abs c + 4 * bin - r) / bin) ((unsigned_abs c + 4 * bin + r) / bin) ((unsigned_abs d + 4 * bin - q) / bin) ((unsigned_abs d + 4 * bin + q) / bin)

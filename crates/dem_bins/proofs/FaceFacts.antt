@@ -1,21 +1,18 @@
 -- A sphere whose gap is no less than the distance of nearness isn't near a plane.
-use Rattle.std.proofs.Common.{◌≡◌, ℕ, ◌+◌, ◌*◌, ◌-◌, ◌^◌, ◌<◌, ◌≤◌, List, [], ◌∷◌, refl, sym, ap, ◌∙◌, arith, subst, ℤ, pos, ◌≤ℤ◌, unsigned_abs, true, false}
-use Rattle.std.specs.Prelude.{int_lt, if◌then◌else◌, ◌&&◌, nat_lt}
-use Rattle.std.proofs.lemmas.Bool.{le-ltb, lt-ltb, and_from, and_right}
-use Rattle.std.proofs.lemmas.Bool.Decides.{nat_tests}
-use Rattle.std.proofs.lemmas.Int.{ints}
+use Rattle.std.proofs.Common.{◌≡◌, ℕ, ◌+◌, ◌*◌, ◌-◌, ◌<◌, ◌≤◌, List, [], refl, sym, ap, ◌∙◌, arith, subst, ℤ, pos, false}
+use Rattle.std.specs.Prelude.{int_lt}
+use Rattle.std.proofs.lemmas.Bool.{le-ltb, lt-ltb, and_right}
 use Rattle.dem_num.specs.Numbers.{shifted}
 use Rattle.dem_num.specs.declared.vector.Vec3.{Vec3}
-use Rattle.dem_num.specs.Vectors.{widened, dot_of, difference_of, Within}
+use Rattle.dem_num.specs.Vectors.{widened, dot_of, difference_of}
 use Rattle.dem_model.specs.SceneValue.{SceneValue}
-use Rattle.dem_model.specs.Sound.{IsSound, EachBetween}
+use Rattle.dem_model.specs.Sound.{IsSound}
 use Rattle.dem_model.specs.Centers.{center_at}
 use Rattle.dem_model.specs.Motion.{IsPair}
 use Rattle.dem_model.specs.Near.{near, form_near, plane_near, wall_near_of, reach_of, drift_of}
 use Rattle.dem_model.specs.Pairs.{sphere_count, sphere_at, limit_of, wall_at, apart, pair_of}
-use Rattle.dem_model.specs.Touch.{gap_of, unit_of}
+use Rattle.dem_model.specs.Touch.{gap_of}
 use Rattle.dem_model.specs.declared.shape.Form.{Form}
-use Rattle.dem_model.specs.declared.shape.Form.TheVariants.{Plane}
 use Rattle.dem_model.specs.declared.state.Pair.{Pair}
 use Rattle.dem_margin.specs.NearList.{pair_if_near}
 use Rattle.dem_bins.specs.Faces.{IsFaceOf}

@@ -1,10 +1,10 @@
 -- Keys as numbers: what a key says of its column, its cell and its sphere, and when two keys meet.
-use Rattle.std.proofs.Common.{◌≡◌, ℕ, ◌+◌, ◌*◌, ◌/◌, ◌%◌, ◌-◌, ◌<◌, ◌≤◌, List, refl, sym, ap, ◌∙◌, arith, subst, Bool, true, false, inl, inr}
-use Rattle.std.specs.Prelude.{if◌then◌else◌, ◌==◌, ◌&&◌, not, nat_lt, min, max}
-use Rattle.std.proofs.lemmas.Bool.{cases_Bool, and_parts, and_from, ltb-true, lt-ltb, not-true, not_from_false, eqb-false, eqb-true, eq-eqb, ne_eqb}
+use Rattle.std.proofs.Common.{◌≡◌, ℕ, ◌+◌, ◌*◌, ◌/◌, ◌-◌, ◌<◌, ◌≤◌, List, refl, sym, ap, ap₂, ◌∙◌, arith, subst, Bool, true}
+use Rattle.std.specs.Prelude.{◌==◌, ◌&&◌, not, nat_lt, min, max}
+use Rattle.std.proofs.lemmas.Bool.{and_parts, and_from, ltb-true, lt-ltb, not-true, not_from_false, eqb-false, ne_eqb}
 use Rattle.std.proofs.lemmas.Bool.Decides.{nat_tests}
 use Rattle.std.proofs.lemmas.Nat.{mod-mul-add, div-mul-add, div_below, same_from_place}
-use Rattle.dem_bins.specs.Blocks.{block_at, IsSpan}
+use Rattle.dem_bins.specs.Blocks.{block_at, beside}
 use Rattle.dem_bins.specs.Keys.{column_of, key_of, sphere_in, column_in}
 use Rattle.dem_bins.specs.Walk.{end_of, meets}
 use Rattle.dem_bins.specs.declared.blocks.Block.{Block}
@@ -60,30 +60,34 @@ pub record AreSmall (l i high m j : ℕ) : Type 0 where
 
 -- two keys that meet
 pub meets-parts : (bs : List Block) (c l i d m j : ℕ) → AreSmall l i (block_at bs i).z.high m j →
-    meets bs (key_of c l i) (key_of d m j) ≡ true → AreMet c l i (block_at bs i).z.high d m j × (i ≡ j → ⊥)
+    meets bs (key_of c l i) (key_of d m j) ≡ true → AreMet c l i (block_at bs i).z.high d m j × (i ≡ j → ⊥) × (beside (block_at bs i) (block_at bs j) ≡ true)
 unfolding meets
 meets-parts bs c l i d m j small h =
-    let both = and_parts (nat_lt (key_of c l i) (key_of d m j) && nat_lt (key_of d m j) (end_of bs (key_of c l i))) (not (sphere_in (key_of c l i) == sphere_in (key_of d m j))) h in
+    let all = and_parts (nat_lt (key_of c l i) (key_of d m j) && nat_lt (key_of d m j) (end_of bs (key_of c l i)) && not (sphere_in (key_of c l i) == sphere_in (key_of d m j))) (beside (block_at bs (sphere_in (key_of c l i))) (block_at bs (sphere_in (key_of d m j)))) h in
+    let both = and_parts (nat_lt (key_of c l i) (key_of d m j) && nat_lt (key_of d m j) (end_of bs (key_of c l i))) (not (sphere_in (key_of c l i) == sphere_in (key_of d m j))) all.0 in
     let two = and_parts (nat_lt (key_of c l i) (key_of d m j)) (nat_lt (key_of d m j) (end_of bs (key_of c l i))) both.0 in
     let below : key_of d m j < key_of c ((block_at bs i).z.high + 1) 0 =
     subst (λ (n : ℕ). key_of d m j < n) (end_of-key bs c l i small.low small.sphere) (ltb-true (key_of d m j) (end_of bs (key_of c l i)) two.1) in (
       between-keys c l i (block_at bs i).z.high d m j small.low small.sphere small.up small.low_second small.sphere_second (ltb-true (key_of c l i) (key_of d m j) two.0) below,
       λ e. eqb-false (sphere_in (key_of c l i)) (sphere_in (key_of d m j)) (not-true (sphere_in (key_of c l i) == sphere_in (key_of d m j)) both.1)
           (sphere_in-key c l i small.sphere ∙ e ∙ sym (sphere_in-key d m j small.sphere_second)),
+      sym (ap₂ (λ (a b : ℕ). beside (block_at bs a) (block_at bs b)) (sphere_in-key c l i small.sphere) (sphere_in-key d m j small.sphere_second)) ∙ all.1,
     )
 
 -- and what it takes
 pub meets-from : (bs : List Block) (c l i d m j : ℕ) → AreSmall l i (block_at bs i).z.high m j →
-    AreMet c l i (block_at bs i).z.high d m j → (i ≡ j → ⊥) → meets bs (key_of c l i) (key_of d m j) ≡ true
+    AreMet c l i (block_at bs i).z.high d m j → (i ≡ j → ⊥) → beside (block_at bs i) (block_at bs j) ≡ true → meets bs (key_of c l i) (key_of d m j) ≡ true
 unfolding meets
-meets-from bs c l i d m j small met other =
+meets-from bs c l i d m j small met other near =
     let at = keys-between c l i (block_at bs i).z.high d m j small.low small.sphere small.up small.low_second small.sphere_second met in
     let below : key_of d m j < end_of bs (key_of c l i) =
     subst (λ (n : ℕ). key_of d m j < n) (sym (end_of-key bs c l i small.low small.sphere)) at.1 in
-    and_from (nat_lt (key_of c l i) (key_of d m j) && nat_lt (key_of d m j) (end_of bs (key_of c l i))) (not (sphere_in (key_of c l i) == sphere_in (key_of d m j)))
+    and_from (nat_lt (key_of c l i) (key_of d m j) && nat_lt (key_of d m j) (end_of bs (key_of c l i)) && not (sphere_in (key_of c l i) == sphere_in (key_of d m j))) (beside (block_at bs (sphere_in (key_of c l i))) (block_at bs (sphere_in (key_of d m j))))
+    (and_from (nat_lt (key_of c l i) (key_of d m j) && nat_lt (key_of d m j) (end_of bs (key_of c l i))) (not (sphere_in (key_of c l i) == sphere_in (key_of d m j)))
     (and_from (nat_lt (key_of c l i) (key_of d m j)) (nat_lt (key_of d m j) (end_of bs (key_of c l i))) (lt-ltb (key_of c l i) (key_of d m j) at.0) (lt-ltb (key_of d m j) (end_of bs (key_of c l i)) below))
     (not_from_false (sphere_in (key_of c l i) == sphere_in (key_of d m j))
-    (ne_eqb (sphere_in (key_of c l i)) (sphere_in (key_of d m j)) (λ e. other (sym (sphere_in-key c l i small.sphere) ∙ e ∙ sphere_in-key d m j small.sphere_second))))
+    (ne_eqb (sphere_in (key_of c l i)) (sphere_in (key_of d m j)) (λ e. other (sym (sphere_in-key c l i small.sphere) ∙ e ∙ sphere_in-key d m j small.sphere_second)))))
+    (ap₂ (λ (a b : ℕ). beside (block_at bs a) (block_at bs b)) (sphere_in-key c l i small.sphere) (sphere_in-key d m j small.sphere_second) ∙ near)
 
 -- a column says its cells
 pub column_of-same : (x y u v : ℕ) → y < CELLS → v < CELLS → column_of x y ≡ column_of u v → (x ≡ u) × (y ≡ v)

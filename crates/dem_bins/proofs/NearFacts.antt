@@ -1,9 +1,9 @@
 -- What a walk and the walls find is exactly the near pairs.
-use Rattle.std.proofs.Common.{◌≡◌, ℕ, zero, suc, ◌+◌, ◌*◌, ◌/◌, ◌-◌, ◌<◌, ◌≤◌, List, [], ◌∷◌, ◌++◌, length, map, refl, sym, ap, ap₂, ◌∙◌, arith, subst, inl, inr, Bool, true, false, ℤ, pos, ◌-ℤ◌, unsigned_abs, ◌⊎◌}
-use Rattle.std.specs.Prelude.{if◌then◌else◌, ◌&&◌, ◌==◌, not, nat_lt, All, min, max, filter}
-use Rattle.std.specs.List.{Contains, flat_map, range_with_len}
+use Rattle.std.proofs.Common.{◌≡◌, ℕ, ◌+◌, ◌*◌, ◌<◌, ◌≤◌, List, [], ◌++◌, length, map, refl, sym, ap₂, ◌∙◌, arith, subst, inl, inr, Bool, true, false, ℤ, pos, ◌-ℤ◌, unsigned_abs, ◌-◌}
+use Rattle.std.specs.Prelude.{◌&&◌, ◌==◌, not, nat_lt, All, min, max}
+use Rattle.std.specs.List.{Contains, range_with_len}
 use Rattle.std.specs.List.Sorted.{IsPermutation}
-use Rattle.std.proofs.lemmas.Bool.{and_parts, and_from, cases_Bool, cases_lt, cases_order, ltb-false, lt-ltb, le-ltb, not-true, eq-eqb, eqb-true}
+use Rattle.std.proofs.lemmas.Bool.{and_parts, and_from, cases_Bool, cases_lt, ltb-false, lt-ltb, le-ltb, not-true, not_from_false, eq-eqb}
 use Rattle.std.proofs.lemmas.Int.{ints}
 use Rattle.std.proofs.lemmas.List.Elements.{All-contains, Contains-append_left, Contains-append_right, Contains-append_cases}
 use Rattle.std.proofs.lemmas.List.Sorted.{Contains-permutation}
@@ -19,18 +19,19 @@ use Rattle.dem_model.specs.declared.state.Pair.{Pair}
 use Rattle.dem_margin.specs.NearList.{pair_if_near}
 use Rattle.dem_margin.proofs.PairsFacts.{all_pairs-pairs}
 use Rattle.dem_bins.specs.Bins.{GridValue, IsGridOf}
-use Rattle.dem_bins.specs.Blocks.{span_of, block_of, blocks_of, block_at, IsBlock, IsSpan}
+use Rattle.dem_bins.specs.Blocks.{interval_of, cells_of, block_of, blocks_of, block_at, meet_on, beside, IsBlock}
 use Rattle.dem_bins.specs.Keys.{column_of, key_of, sphere_in, column_in, cells_in, row_keys, own_keys, keys_of, IsKey}
-use Rattle.dem_bins.specs.Walk.{meets, first_column, pair_in, visited, met, row_of, rows_of, AreKeys, wall_found, walls_found}
+use Rattle.dem_bins.specs.Walk.{meets, first_column, pair_in, visited, met, row_of, rows_of, AreBoxes, AreKeys, wall_found, walls_found}
 use Rattle.dem_bins.specs.declared.blocks.Block.{Block}
 use Rattle.dem_bins.specs.declared.blocks.Span.{Span}
-use Rattle.dem_bins.specs.declared.keys.TheConstants.{CELLS, SPHERES}
+use Rattle.dem_bins.specs.declared.blocks.TheConstants.{WIDE}
+use Rattle.dem_bins.specs.declared.keys.TheConstants.{SPHERES}
 use Rattle.dem_bins.proofs.ListFacts.{none-has, first-has, has-cases, flat-has, flat-from, map-has, filter-has, filter-from, range-has, range-from}
-use Rattle.dem_bins.proofs.KeyFacts.{AreMet, AreSmall, meets-from, sphere_in-key, column_in-key}
+use Rattle.dem_bins.proofs.KeyFacts.{AreSmall, meets-from, sphere_in-key, column_in-key}
 use Rattle.dem_bins.proofs.CountFacts.{width, block-small, block_at-good}
 use Rattle.dem_list.specs.Ascending.{HasSamePairs}
 use Rattle.dem_model.proofs.PairFacts.{apart-order}
-use Rattle.dem_bins.proofs.BlockFacts.{div-le, blocks_of-at}
+use Rattle.dem_bins.proofs.BlockFacts.{div-le, blocks_of-at, blocks_of-count, reach_of-bins}
 use Rattle.dem_bins.proofs.WalkFacts.{met-none, met-visited}
 
 -- ---- near pairs
@@ -135,19 +136,33 @@ pub record Shares (a b : Span) : Type 0 where
   pub first : a.low ≤ b.high
   pub second : b.low ≤ a.high
 
-span_of-shares : (bin r q : ℕ) (c d : ℤ) → 0 < bin → pos (unsigned_abs c) ≡ c → pos (unsigned_abs d) ≡ d → unsigned_abs (c -ℤ d) ≤ r + q →
-    Shares (span_of bin r (unsigned_abs c)) (span_of bin q (unsigned_abs d))
-unfolding span_of
-span_of-shares bin r q c d some cp dp close = record {
-  first = div-le (unsigned_abs c + 4 * bin - r) (unsigned_abs d + 4 * bin + q) bin some (omega (arith, ints));
-  second = div-le (unsigned_abs d + 4 * bin - q) (unsigned_abs c + 4 * bin + r) bin some (omega (arith, ints));
-}
+interval_of-shares : (bin r q : ℕ) (c d : ℤ) → pos (unsigned_abs c) ≡ c → pos (unsigned_abs d) ≡ d → unsigned_abs (c -ℤ d) ≤ r + q →
+    Shares (interval_of bin r (unsigned_abs c)) (interval_of bin q (unsigned_abs d))
+unfolding interval_of
+interval_of-shares bin r q c d cp dp close = record { first = omega (arith, ints); second = omega (arith, ints) }
 
--- the blocks share cells on each axis
+cells_of-shares : (side : ℕ) (a b : Span) → 0 < side → Shares a b → Shares (cells_of side a) (cells_of side b)
+unfolding cells_of
+cells_of-shares side a b some h = record { first = div-le a.low b.high side some h.first; second = div-le b.low a.high side some h.second }
+
+shares-meet : (a b : Span) → Shares a b → meet_on a b ≡ true
+unfolding meet_on
+shares-meet a b h =
+    and_from (not (nat_lt b.high a.low)) (not (nat_lt a.high b.low))
+    (not_from_false (nat_lt b.high a.low) (le-ltb b.high a.low h.first)) (not_from_false (nat_lt a.high b.low) (le-ltb a.high b.low h.second))
+
+-- the blocks share cells on each axis, and the boxes are beside each other
 pub record ShareBlocks (a b : Block) : Type 0 where
   pub x : Shares a.x b.x
   pub y : Shares a.y b.y
   pub z : Shares a.z b.z
+  pub across : Shares a.across b.across
+  pub along : Shares a.along b.along
+
+pub share-beside : (a b : Block) → ShareBlocks a b → beside a b ≡ true
+unfolding beside
+share-beside a b h =
+    and_from (meet_on a.across b.across) (meet_on a.along b.along) (shares-meet a.across b.across h.across) (shares-meet a.along b.along h.along)
 
 -- a component isn't negative
 abbrev pub IsPlace : Vec3 → Type 0
@@ -155,6 +170,27 @@ IsPlace c = (pos (unsigned_abs c.x) ≡ c.x) × (pos (unsigned_abs c.y) ≡ c.y)
 
 axis-close : (reach n : ℕ) → not (nat_lt reach n) ≡ true → n ≤ reach
 axis-close reach n h = ltb-false reach n (not-true (nat_lt reach n) h)
+
+-- two tests that pass together are the same
+same-tests : (b c : Bool) → (b ≡ true → c ≡ true) → (c ≡ true → b ≡ true) → b ≡ c
+same-tests true c f g = sym (f refl)
+same-tests false true f g = g refl
+same-tests false false f g = refl
+
+and-turned : (b c : Bool) → (b && c) ≡ (c && b)
+and-turned true true = refl
+and-turned true false = refl
+and-turned false true = refl
+and-turned false false = refl
+
+close-meet : (bin r q : ℕ) (c d : ℤ) → pos (unsigned_abs c) ≡ c → pos (unsigned_abs d) ≡ d → r ≤ 4 * bin → q ≤ 4 * bin →
+    meet_on (interval_of bin r (unsigned_abs c)) (interval_of bin q (unsigned_abs d)) ≡ true → unsigned_abs (c -ℤ d) ≤ r + q
+unfolding meet_on interval_of
+close-meet bin r q c d cp dp rl ql h =
+    let parts = and_parts (not (nat_lt (unsigned_abs d + 4 * bin + q) (unsigned_abs c + 4 * bin - r))) (not (nat_lt (unsigned_abs c + 4 * bin + r) (unsigned_abs d + 4 * bin - q))) h in
+    let first : unsigned_abs c + 4 * bin - r ≤ unsigned_abs d + 4 * bin + q = ltb-false (unsigned_abs d + 4 * bin + q) (unsigned_abs c + 4 * bin - r) (not-true (nat_lt (unsigned_abs d + 4 * bin + q) (unsigned_abs c + 4 * bin - r)) parts.0) in
+    let second : unsigned_abs d + 4 * bin - q ≤ unsigned_abs c + 4 * bin + r = ltb-false (unsigned_abs c + 4 * bin + r) (unsigned_abs d + 4 * bin - q) (not-true (nat_lt (unsigned_abs c + 4 * bin + r) (unsigned_abs d + 4 * bin - q)) parts.1) in
+    omega (arith, ints)
 
 -- near spheres share cells
 near-shares : (s : SceneValue) (g : GridValue) (cs : List Vec3) (i j : ℕ) → 0 < g.bin → j < sphere_count s → IsPlace (center_at cs i) → IsPlace (center_at cs j) →
@@ -170,11 +206,72 @@ near-shares s g cs i j some there ip jp h =
     let one = and_parts
     (not (nat_lt (reach_of s g.drift i + reach_of s g.drift j) (unsigned_abs ((center_at cs i).x -ℤ (center_at cs j).x))))
     (not (nat_lt (reach_of s g.drift i + reach_of s g.drift j) (unsigned_abs ((center_at cs i).y -ℤ (center_at cs j).y)))) two.0 in
+    let xs : Shares (interval_of g.bin (reach_of s g.drift i) (unsigned_abs (center_at cs i).x)) (interval_of g.bin (reach_of s g.drift j) (unsigned_abs (center_at cs j).x)) =
+    interval_of-shares g.bin (reach_of s g.drift i) (reach_of s g.drift j) (center_at cs i).x (center_at cs j).x ip.0 jp.0 (axis-close (reach_of s g.drift i + reach_of s g.drift j) (unsigned_abs ((center_at cs i).x -ℤ (center_at cs j).x)) one.0) in
+    let ys : Shares (interval_of g.bin (reach_of s g.drift i) (unsigned_abs (center_at cs i).y)) (interval_of g.bin (reach_of s g.drift j) (unsigned_abs (center_at cs j).y)) =
+    interval_of-shares g.bin (reach_of s g.drift i) (reach_of s g.drift j) (center_at cs i).y (center_at cs j).y ip.1 jp.1 (axis-close (reach_of s g.drift i + reach_of s g.drift j) (unsigned_abs ((center_at cs i).y -ℤ (center_at cs j).y)) one.1) in
+    let zs : Shares (interval_of g.bin (reach_of s g.drift i) (unsigned_abs (center_at cs i).z)) (interval_of g.bin (reach_of s g.drift j) (unsigned_abs (center_at cs j).z)) =
+    interval_of-shares g.bin (reach_of s g.drift i) (reach_of s g.drift j) (center_at cs i).z (center_at cs j).z ip.2 jp.2 (axis-close (reach_of s g.drift i + reach_of s g.drift j) (unsigned_abs ((center_at cs i).z -ℤ (center_at cs j).z)) two.1) in
     record {
-      x = span_of-shares g.bin (reach_of s g.drift i) (reach_of s g.drift j) (center_at cs i).x (center_at cs j).x some ip.0 jp.0 (axis-close (reach_of s g.drift i + reach_of s g.drift j) (unsigned_abs ((center_at cs i).x -ℤ (center_at cs j).x)) one.0);
-      y = span_of-shares g.bin (reach_of s g.drift i) (reach_of s g.drift j) (center_at cs i).y (center_at cs j).y some ip.1 jp.1 (axis-close (reach_of s g.drift i + reach_of s g.drift j) (unsigned_abs ((center_at cs i).y -ℤ (center_at cs j).y)) one.1);
-      z = span_of-shares g.bin (reach_of s g.drift i) (reach_of s g.drift j) (center_at cs i).z (center_at cs j).z some ip.2 jp.2 (axis-close (reach_of s g.drift i + reach_of s g.drift j) (unsigned_abs ((center_at cs i).z -ℤ (center_at cs j).z)) two.1);
+      x = cells_of-shares (g.bin * WIDE) _ _ (omega (arith, some)) xs;
+      y = cells_of-shares (g.bin * WIDE) _ _ (omega (arith, some)) ys;
+      z = cells_of-shares g.bin _ _ some zs;
+      across = xs;
+      along = ys;
     }
+
+-- two intervals meet exactly where their middles are no farther apart than both reach
+meet-close : (bin r q : ℕ) (c d : ℤ) → pos (unsigned_abs c) ≡ c → pos (unsigned_abs d) ≡ d → r ≤ 4 * bin → q ≤ 4 * bin →
+    not (nat_lt (r + q) (unsigned_abs (c -ℤ d))) ≡ meet_on (interval_of bin r (unsigned_abs c)) (interval_of bin q (unsigned_abs d))
+meet-close bin r q c d cp dp rl ql =
+    same-tests (not (nat_lt (r + q) (unsigned_abs (c -ℤ d)))) (meet_on (interval_of bin r (unsigned_abs c)) (interval_of bin q (unsigned_abs d)))
+    (λ h. shares-meet (interval_of bin r (unsigned_abs c)) (interval_of bin q (unsigned_abs d)) (interval_of-shares bin r q c d cp dp (axis-close (r + q) (unsigned_abs (c -ℤ d)) h)))
+    (λ h. not_from_false (nat_lt (r + q) (unsigned_abs (c -ℤ d))) (le-ltb (r + q) (unsigned_abs (c -ℤ d)) (close-meet bin r q c d cp dp rl ql h)))
+
+-- of two spheres whose boxes are beside each other the boxes meet on the third axis exactly where they are near
+near-upright : (s : SceneValue) (g : GridValue) (cs : List Vec3) (i j : ℕ) → IsGridOf s g → i < sphere_count s → j < sphere_count s → IsPlace (center_at cs i) → IsPlace (center_at cs j) →
+    beside (block_of s g cs i) (block_of s g cs j) ≡ true → near s g.drift cs (pair_of i j) ≡ meet_on (block_of s g cs i).upright (block_of s g cs j).upright
+unfolding near spheres_near block_of beside
+near-upright s g cs i j grid il jl ip jp h =
+    let ri : reach_of s g.drift i ≤ 4 * g.bin = reach_of-bins s g i grid il in
+    let rj : reach_of s g.drift j ≤ 4 * g.bin = reach_of-bins s g j grid jl in
+    let xs = meet-close g.bin (reach_of s g.drift i) (reach_of s g.drift j) (center_at cs i).x (center_at cs j).x ip.0 jp.0 ri rj in
+    let ys = meet-close g.bin (reach_of s g.drift i) (reach_of s g.drift j) (center_at cs i).y (center_at cs j).y ip.1 jp.1 ri rj in
+    let zs = meet-close g.bin (reach_of s g.drift i) (reach_of s g.drift j) (center_at cs i).z (center_at cs j).z ip.2 jp.2 ri rj in
+    let parts = and_parts
+    (meet_on (interval_of g.bin (reach_of s g.drift i) (unsigned_abs (center_at cs i).x)) (interval_of g.bin (reach_of s g.drift j) (unsigned_abs (center_at cs j).x)))
+    (meet_on (interval_of g.bin (reach_of s g.drift i) (unsigned_abs (center_at cs i).y)) (interval_of g.bin (reach_of s g.drift j) (unsigned_abs (center_at cs j).y))) h in
+    rw (lt-ltb j (sphere_count s) jl, xs ∙ parts.0, ys ∙ parts.1) zs
+
+meet_on-turned : (a b : Span) → meet_on a b ≡ meet_on b a
+unfolding meet_on
+meet_on-turned a b = and-turned (not (nat_lt b.high a.low)) (not (nat_lt a.high b.low))
+
+beside-turned : (a b : Block) → beside a b ≡ beside b a
+unfolding beside
+beside-turned a b = ap₂ (λ (p q : Bool). p && q) (meet_on-turned a.across b.across) (meet_on-turned a.along b.along)
+
+-- the same of the blocks of all spheres, in either order
+pub blocks_of-boxes : (s : SceneValue) (g : GridValue) (cs : List Vec3) → IsGridOf s g → ((i : ℕ) → i < sphere_count s → IsPlace (center_at cs i)) → AreBoxes s g.drift cs (blocks_of s g cs)
+blocks_of-boxes s g cs grid inside i j il jl h =
+    let ic : i < sphere_count s = omega (arith, blocks_of-count s g cs) in
+    let jc : j < sphere_count s = omega (arith, blocks_of-count s g cs) in
+    let near' : beside (block_of s g cs i) (block_of s g cs j) ≡ true =
+    sym (ap₂ (λ (a b : Block). beside a b) (blocks_of-at s g cs i ic) (blocks_of-at s g cs j jc)) ∙ h in
+    let done : near s g.drift cs (pair_of (min i j) (max i j)) ≡ meet_on (block_of s g cs i).upright (block_of s g cs j).upright =
+    elim (cases_lt i j) [
+      | inl less ↦
+          let low : min i j ≡ i = omega arith in
+          let high : max i j ≡ j = omega arith in
+          ap₂ (λ (a b : ℕ). near s g.drift cs (pair_of a b)) low high ∙ near-upright s g cs i j grid ic jc (inside i ic) (inside j jc) near'
+      | inr more ↦
+          let low : min i j ≡ j = omega arith in
+          let high : max i j ≡ i = omega arith in
+          ap₂ (λ (a b : ℕ). near s g.drift cs (pair_of a b)) low high
+          ∙ near-upright s g cs j i grid jc ic (inside j jc) (inside i ic) (beside-turned (block_of s g cs j) (block_of s g cs i) ∙ near')
+          ∙ meet_on-turned (block_of s g cs j).upright (block_of s g cs i).upright
+    ] in
+    done ∙ sym (ap₂ (λ (a b : Block). meet_on a.upright b.upright) (blocks_of-at s g cs i ic) (blocks_of-at s g cs j jc))
 
 -- ---- the keys of the first column that two blocks share
 
@@ -217,7 +314,7 @@ met-has s drift cs bs i j il jl gi gj share order other =
     let small : AreSmall (block_at bs i).z.low i (block_at bs i).z.high (block_at bs j).z.low j = block-small (block_at bs i) (block_at bs j) i j gi gj il jl in
     let meet : meets bs (first_key (block_at bs i) (block_at bs j) i) (first_key (block_at bs j) (block_at bs i) j) ≡ true =
     meets-from bs (first_column (block_at bs i) (block_at bs j)) (block_at bs i).z.low i (first_column (block_at bs j) (block_at bs i)) (block_at bs j).z.low j small
-    (record { column = first_column-turned (block_at bs i) (block_at bs j); order = order; below = share.z.second }) other in
+    (record { column = first_column-turned (block_at bs i) (block_at bs j); order = order; below = share.z.second }) other (share-beside (block_at bs i) (block_at bs j) share) in
     met-visited s drift cs bs (first_key (block_at bs i) (block_at bs j) i) (first_key (block_at bs j) (block_at bs i) j) meet
     ∙ visited-is s drift cs bs (first_key (block_at bs i) (block_at bs j) i) (first_key (block_at bs j) (block_at bs i) j) i j
     (sphere_in-key (first_column (block_at bs i) (block_at bs j)) (block_at bs i).z.low i il)
@@ -237,6 +334,8 @@ turned a b h = record {
   x = record { first = h.x.second; second = h.x.first };
   y = record { first = h.y.second; second = h.y.first };
   z = record { first = h.z.second; second = h.z.first };
+  across = record { first = h.across.second; second = h.across.first };
+  along = record { first = h.along.second; second = h.along.first };
 }
 
 -- every near pair of two spheres is found, where the blocks are those of the spheres

@@ -1,5 +1,5 @@
 -- Blocks and sorted keys of a grid: what a walk over them needs, finds and costs.
-use Rattle.std.proofs.Common.{◌≡◌, ℕ, ◌+◌, ◌*◌, ◌-◌, ◌^◌, ◌<◌, ◌≤◌, List, [], ◌∷◌, ◌++◌, length, get_or, refl, sym, ap, ap₂, ◌∙◌, arith, subst, ℤ, pos, ◌≤ℤ◌, unsigned_abs}
+use Rattle.std.proofs.Common.{◌≡◌, ℕ, ◌+◌, ◌*◌, ◌-◌, ◌^◌, ◌<◌, ◌≤◌, List, ◌++◌, length, get_or, sym, ap, ap₂, ◌∙◌, arith, subst, ℤ, pos, ◌≤ℤ◌, unsigned_abs}
 use Rattle.std.specs.Prelude.{All}
 use Rattle.std.specs.List.{Contains, range_with_len}
 use Rattle.std.specs.List.Sorted.{IsPermutation, IsNonDecreasing}
@@ -8,7 +8,6 @@ use Rattle.std.proofs.lemmas.Nat.{mul-le}
 use Rattle.std.proofs.lemmas.List.Elements.{Contains-get_or}
 use Rattle.std.proofs.lemmas.List.Sorted.{All-permutation}
 use Rattle.dem_num.specs.declared.vector.Vec3.{Vec3}
-use Rattle.dem_num.specs.Vectors.{widened}
 use Rattle.dem_list.specs.Ascending.{HasSamePairs}
 use Rattle.dem_model.specs.SceneValue.{SceneValue}
 use Rattle.dem_model.specs.Sound.{IsSound, IsBetween, EachBetween}
@@ -19,17 +18,17 @@ use Rattle.dem_model.specs.Pairs.{sphere_count}
 use Rattle.dem_model.specs.declared.state.Pair.{Pair}
 use Rattle.dem_force.proofs.TouchFacts.{in_box-between}
 use Rattle.dem_bins.specs.Bins.{GridValue, IsGridOf, most_tests}
-use Rattle.dem_bins.specs.Blocks.{block_of, blocks_of, block_at, no_block, IsBlock}
-use Rattle.dem_bins.specs.Keys.{column_of, key_of, cells_in, row_keys, own_keys, keys_of, sphere_in, IsKey}
-use Rattle.dem_bins.specs.Walk.{AreKeys, rows_of, rows_visits, walls_found}
+use Rattle.dem_bins.specs.Blocks.{blocks_of, block_at, IsBlock}
+use Rattle.dem_bins.specs.Keys.{column_of, key_of, cells_in, row_keys, own_keys, keys_of, IsKey}
+use Rattle.dem_bins.specs.Walk.{AreBoxes, AreKeys, rows_of, rows_visits, walls_found}
 use Rattle.dem_bins.specs.declared.blocks.Block.{Block}
 use Rattle.dem_bins.specs.declared.keys.TheConstants.{CELLS, SPHERES}
 use Rattle.dem_bins.proofs.ListFacts.{flat-from, map-from, range-from}
 use Rattle.dem_bins.proofs.KeyFacts.{sphere_in-key, key_of-small, column_of-small}
 use Rattle.dem_bins.proofs.CountFacts.{all_shared, block_at-good, block_at-any, rows_visits-le}
 use Rattle.dem_bins.proofs.RoomFacts.{rows_of-le}
-use Rattle.dem_bins.proofs.BlockFacts.{block_of-good, blocks_of-count, blocks_of-at}
-use Rattle.dem_bins.proofs.NearFacts.{IsPlace, found-same}
+use Rattle.dem_bins.proofs.BlockFacts.{AreWide, block_of-good, blocks_of-count, blocks_of-at, blocks_of-wide}
+use Rattle.dem_bins.proofs.NearFacts.{IsPlace, found-same, blocks_of-boxes}
 use Rattle.dem_bins.proofs.BoundFacts.{all_shared-is}
 
 -- ---- centers in the box
@@ -98,6 +97,11 @@ plan-keys s g cs bs es p =
       order = p.order;
     }
 
+pub plan-boxes : (s : SceneValue) (g : GridValue) (drift : ℕ) (cs : List Vec3) (bs : List Block) (es : List ℕ) → IsPlan s g cs bs es → drift ≡ g.drift → AreBoxes s drift cs bs
+plan-boxes s g drift cs bs es p same =
+    subst (λ (n : ℕ). AreBoxes s n cs bs) (sym same)
+    (subst (λ (xs : List Block). AreBoxes s g.drift cs xs) (sym p.blocks) (blocks_of-boxes s g cs p.grid (λ i l. inside-place s cs i p.sound p.inside l)))
+
 -- a walk finds fewer pairs than a list has room for
 pub plan-room : (s : SceneValue) (g : GridValue) (drift : ℕ) (cs : List Vec3) (bs : List Block) (es : List ℕ) → IsPlan s g cs bs es → length (rows_of s drift cs bs es) ≤ 2 ^ 30
 plan-room s g drift cs bs es p =
@@ -108,7 +112,7 @@ plan-room s g drift cs bs es p =
 pub plan-counted : (s : SceneValue) (g : GridValue) (cs : List Vec3) (bs : List Block) (es : List ℕ) → IsPlan s g cs bs es → rows_visits bs es + sphere_count s * length s.walls ≤ most_tests s g cs
 plan-counted s g cs bs es p =
     let good = plan-blocks s g cs bs p.sound p.grid p.inside p.blocks in
-    omega (arith, rows_visits-le bs es good.0 good.1 p.moved, ap all_shared p.blocks, all_shared-is s g cs p.grid (λ i l. inside-place s cs i p.sound p.inside l))
+    omega (arith, rows_visits-le g.bin bs es p.grid.some good.0 (subst (λ xs. AreWide g.bin xs) (sym p.blocks) (blocks_of-wide s g cs)) good.1 p.moved, ap (all_shared g.bin) p.blocks, all_shared-is s g cs p.grid (λ i l. inside-place s cs i p.sound p.inside l))
 
 -- a walk and the walls find exactly the near pairs
 pub plan-found : (s : SceneValue) (g : GridValue) (drift : ℕ) (cs : List Vec3) (bs : List Block) (es : List ℕ) (ps : List Pair) → IsPlan s g cs bs es → drift ≡ g.drift →

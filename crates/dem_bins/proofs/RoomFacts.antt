@@ -1,7 +1,7 @@
 -- How many pairs a walk can find: of two spheres at most one.
-use Rattle.std.proofs.Common.{◌≡◌, ℕ, zero, suc, ◌+◌, ◌*◌, ◌-◌, ◌<◌, ◌≤◌, List, [], ◌∷◌, ◌++◌, length, refl, sym, ap, ap₂, ◌∙◌, arith, subst, Bool, true, false, inl, inr}
-use Rattle.std.specs.Prelude.{if◌then◌else◌, ◌==◌, ◌&&◌, All, min, max}
-use Rattle.std.specs.List.{flat_map, range_with_len, sum_by}
+use Rattle.std.proofs.Common.{◌≡◌, ℕ, ◌*◌, ◌<◌, ◌≤◌, List, [], length, refl, ◌∙◌, arith, Bool, true, false, inl, inr}
+use Rattle.std.specs.Prelude.{◌==◌, ◌&&◌, All, max}
+use Rattle.std.specs.List.{flat_map, sum_by}
 use Rattle.std.specs.List.Sorted.{IsPermutation}
 use Rattle.std.proofs.lemmas.Bool.{cases_Bool, eq-eqb, eqb-true}
 use Rattle.std.proofs.lemmas.Nat.{mul-le}
@@ -12,14 +12,13 @@ use Rattle.dem_model.specs.Near.{near}
 use Rattle.dem_model.specs.Pairs.{apart}
 use Rattle.dem_model.specs.declared.state.Pair.{Pair}
 use Rattle.dem_margin.specs.NearList.{pair_if_near}
-use Rattle.dem_bins.specs.Blocks.{block_at, IsBlock, IsSpan}
+use Rattle.dem_bins.specs.Blocks.{block_at, IsBlock}
 use Rattle.dem_bins.specs.Keys.{column_of, key_of, sphere_in, column_in, own_keys, keys_of}
 use Rattle.dem_bins.specs.Walk.{meets, first_column, pair_in, visited, met, row_of, rows_of}
 use Rattle.dem_bins.specs.declared.blocks.Block.{Block}
-use Rattle.dem_bins.specs.declared.blocks.Span.{Span}
 use Rattle.dem_bins.specs.declared.keys.TheConstants.{CELLS, SPHERES}
-use Rattle.dem_bins.proofs.SumFacts.{mark, total, total-same, total-le, total-product, total-at, total-const, sum-same}
-use Rattle.dem_bins.proofs.KeyFacts.{AreMet, AreSmall, meets-parts, column_of-same, sphere_in-key, column_in-key}
+use Rattle.dem_bins.proofs.SumFacts.{mark, total, total-le, total-product, total-at, total-const, sum-same}
+use Rattle.dem_bins.proofs.KeyFacts.{AreMet, meets-parts, column_of-same, sphere_in-key, column_in-key}
 use Rattle.dem_bins.proofs.CountFacts.{width, span-small, block-small, two_keys-le, keys_of-pairs, moved-pairs, block_at-good}
 
 pub pair_if_near-short : (s : SceneValue) (drift : ℕ) (cs : List Vec3) (p : Pair) → length (pair_if_near s drift cs p) ≤ 1

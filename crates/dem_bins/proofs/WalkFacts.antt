@@ -1,23 +1,24 @@
 -- What a walk has found so far: nothing up to a key itself, nothing after its end, and each visit in between.
-use Rattle.std.proofs.Common.{◌≡◌, ℕ, zero, suc, ◌+◌, ◌*◌, ◌-◌, ◌^◌, ◌<◌, ◌≤◌, List, [], ◌∷◌, ◌++◌, length, map, take, drop, get_or, refl, sym, ap, ap₂, ◌∙◌, arith, subst, zero-add, inl, inr, Bool, true, false}
-use Rattle.std.specs.Prelude.{if◌then◌else◌, ◌&&◌, ◌==◌, not, nat_lt, All}
-use Rattle.std.specs.List.{flat_map, range_with_len, sum_by}
+use Rattle.std.proofs.Common.{◌≡◌, ℕ, ◌+◌, ◌*◌, ◌-◌, ◌<◌, ◌≤◌, List, [], ◌∷◌, ◌++◌, length, map, take, drop, get_or, refl, sym, ap, ap₂, ◌∙◌, arith, subst, zero-add, inl, inr, true, false, Bool}
+use Rattle.std.specs.Prelude.{◌&&◌, ◌==◌, not, nat_lt, All, if◌then◌else◌}
+use Rattle.std.specs.List.{flat_map, range_with_len}
 use Rattle.std.specs.List.Sorted.{IsNonDecreasing}
-use Rattle.std.proofs.lemmas.Bool.{le-ltb, lt-ltb, eq-eqb, and_left, and_right, and_from, not_from_false, ne_eqb, cases_order}
+use Rattle.std.proofs.lemmas.Bool.{and_parts, le-ltb, lt-ltb, eq-eqb, and_left, and_right, and_from, not_from_false, ne_eqb, cases_order}
 use Rattle.std.proofs.lemmas.List.{append-nil, append_assoc, length-append, take_more, take_all, take-append-drop, get_or-take, get_or-drop, get_or_default, length-take, length-drop}
 use Rattle.std.proofs.lemmas.List.Concat.{flat_map-append}
 use Rattle.std.proofs.lemmas.List.Folds.{length-flat_map-take}
 use Rattle.std.proofs.lemmas.List.Elements.{All-tail, All-head}
 use Rattle.dem_num.specs.declared.vector.Vec3.{Vec3}
 use Rattle.dem_model.specs.SceneValue.{SceneValue}
-use Rattle.dem_model.specs.Pairs.{sphere_count, pair_of}
+use Rattle.dem_model.specs.Near.{near}
+use Rattle.dem_model.specs.Pairs.{apart, sphere_count, pair_of}
 use Rattle.dem_model.specs.declared.state.Pair.{Pair}
 use Rattle.dem_bins.proofs.RoomFacts.{pair_if_near-short}
 use Rattle.std.proofs.lemmas.List.FromFn.{map-range_with_len_more}
 use Rattle.std.proofs.lemmas.List.Concat.{length-flat_map}
 use Rattle.dem_bins.proofs.SumFacts.{range-more, total, total-le, total-const, sum-range}
 use Rattle.dem_margin.specs.NearList.{pair_if_near}
-use Rattle.dem_bins.specs.Blocks.{block_at, no_block}
+use Rattle.dem_bins.specs.Blocks.{block_at, no_block, beside}
 use Rattle.dem_bins.specs.Keys.{sphere_in, column_in}
 use Rattle.dem_bins.specs.Walk.{end_of, first_column, pair_in, meets, visited, met, row_of, wall_found}
 use Rattle.dem_bins.specs.declared.blocks.Block.{Block}
@@ -54,30 +55,47 @@ added-place f xs i d start so_far most l e room = omega (arith, added-room f xs 
 meets-early : (bs : List Block) (e d : ℕ) → d ≤ e → meets bs e d ≡ false
 unfolding meets
 meets-early bs e d h =
-    and_left (nat_lt e d && nat_lt d (end_of bs e)) (not (sphere_in e == sphere_in d)) (and_left (nat_lt e d) (nat_lt d (end_of bs e)) (le-ltb e d h))
+    and_left (nat_lt e d && nat_lt d (end_of bs e) && not (sphere_in e == sphere_in d)) (beside (block_at bs (sphere_in e)) (block_at bs (sphere_in d)))
+    (and_left (nat_lt e d && nat_lt d (end_of bs e)) (not (sphere_in e == sphere_in d)) (and_left (nat_lt e d) (nat_lt d (end_of bs e)) (le-ltb e d h)))
 
 meets-late : (bs : List Block) (e d : ℕ) → end_of bs e ≤ d → meets bs e d ≡ false
 unfolding meets
 meets-late bs e d h =
-    and_left (nat_lt e d && nat_lt d (end_of bs e)) (not (sphere_in e == sphere_in d)) (and_right (nat_lt e d) (nat_lt d (end_of bs e)) (le-ltb d (end_of bs e) h))
+    and_left (nat_lt e d && nat_lt d (end_of bs e) && not (sphere_in e == sphere_in d)) (beside (block_at bs (sphere_in e)) (block_at bs (sphere_in d)))
+    (and_left (nat_lt e d && nat_lt d (end_of bs e)) (not (sphere_in e == sphere_in d)) (and_right (nat_lt e d) (nat_lt d (end_of bs e)) (le-ltb d (end_of bs e) h)))
 
 -- two keys of one sphere don't meet
 pub meets-own : (bs : List Block) (e d : ℕ) → sphere_in e ≡ sphere_in d → meets bs e d ≡ false
 unfolding meets
 meets-own bs e d h =
-    and_right (nat_lt e d && nat_lt d (end_of bs e)) (not (sphere_in e == sphere_in d)) (ap not (eq-eqb (sphere_in e) (sphere_in d) h))
+    and_left (nat_lt e d && nat_lt d (end_of bs e) && not (sphere_in e == sphere_in d)) (beside (block_at bs (sphere_in e)) (block_at bs (sphere_in d)))
+    (and_right (nat_lt e d && nat_lt d (end_of bs e)) (not (sphere_in e == sphere_in d)) (ap not (eq-eqb (sphere_in e) (sphere_in d) h)))
 
--- two keys of two spheres do, in order and before the end
-pub meets-now : (bs : List Block) (e d : ℕ) → e ≤ d → d < end_of bs e → (sphere_in e ≡ sphere_in d → ⊥) → meets bs e d ≡ true
+-- nor do those of two spheres whose boxes aren't beside each other
+pub meets-apart : (bs : List Block) (e d : ℕ) → beside (block_at bs (sphere_in e)) (block_at bs (sphere_in d)) ≡ false → meets bs e d ≡ false
 unfolding meets
-meets-now bs e d order below other =
+meets-apart bs e d h =
+    and_right (nat_lt e d && nat_lt d (end_of bs e) && not (sphere_in e == sphere_in d)) (beside (block_at bs (sphere_in e)) (block_at bs (sphere_in d))) h
+
+-- keys that meet are of spheres whose boxes are beside each other
+pub meets-beside : (bs : List Block) (e d : ℕ) → meets bs e d ≡ true → beside (block_at bs (sphere_in e)) (block_at bs (sphere_in d)) ≡ true
+unfolding meets
+meets-beside bs e d h =
+    (and_parts (nat_lt e d && nat_lt d (end_of bs e) && not (sphere_in e == sphere_in d)) (beside (block_at bs (sphere_in e)) (block_at bs (sphere_in d))) h).1
+
+-- two keys of two spheres do, in order and before the end, where the boxes are beside each other
+pub meets-now : (bs : List Block) (e d : ℕ) → e ≤ d → d < end_of bs e → (sphere_in e ≡ sphere_in d → ⊥) → beside (block_at bs (sphere_in e)) (block_at bs (sphere_in d)) ≡ true → meets bs e d ≡ true
+unfolding meets
+meets-now bs e d order below other near =
     let less : e < d = elim (cases_order e d) [
       | inl same ↦ absurd (other (ap sphere_in same))
       | inr rest ↦ elim rest [ inl lt ↦ lt | inr gt ↦ absurd (omega arith) ]
     ] in
-    and_from (nat_lt e d && nat_lt d (end_of bs e)) (not (sphere_in e == sphere_in d))
+    and_from (nat_lt e d && nat_lt d (end_of bs e) && not (sphere_in e == sphere_in d)) (beside (block_at bs (sphere_in e)) (block_at bs (sphere_in d)))
+    (and_from (nat_lt e d && nat_lt d (end_of bs e)) (not (sphere_in e == sphere_in d))
     (and_from (nat_lt e d) (nat_lt d (end_of bs e)) (lt-ltb e d less) (lt-ltb d (end_of bs e) below))
-    (not_from_false (sphere_in e == sphere_in d) (ne_eqb (sphere_in e) (sphere_in d) other))
+    (not_from_false (sphere_in e == sphere_in d) (ne_eqb (sphere_in e) (sphere_in d) other)))
+    near
 
 pub met-none : (s : SceneValue) (drift : ℕ) (cs : List Vec3) (bs : List Block) (e d : ℕ) → meets bs e d ≡ false → met s drift cs bs e d ≡ []
 unfolding met
@@ -159,12 +177,24 @@ pub block_at-read : (bs : List Block) (i j : ℕ) (d : Block) → i ≡ j → j 
 unfolding block_at
 block_at-read bs i j d e l = ap (λ n. get_or bs n d) e ∙ get_or_default bs j d no_block l
 
+-- two keys meet where their spheres were read, are two, and have boxes beside each other
+pub meets-seen : (bs : List Block) (e d a b : ℕ) (x y : Block) → e ≤ d → d < end_of bs e → a ≡ sphere_in e → b ≡ sphere_in d → (a ≡ b → ⊥) →
+    get_or bs a x ≡ block_at bs (sphere_in e) → get_or bs b y ≡ block_at bs (sphere_in d) → beside (get_or bs a x) (get_or bs b y) ≡ true → meets bs e d ≡ true
+meets-seen bs e d a b x y order below ae bd other ax by near =
+    meets-now bs e d order below (λ h. other (ae ∙ h ∙ sym bd)) (sym (ap₂ (λ (p q : Block). beside p q) ax by) ∙ near)
+
 -- in the first column that both spheres meet their pair is added, if it is apart and near
 pub visit-first : (s : SceneValue) (drift : ℕ) (cs : List Vec3) (bs : List Block) (e d : ℕ) (p : Pair) → meets bs e d ≡ true → p ≡ pair_in e d →
     first_column (block_at bs (sphere_in e)) (block_at bs (sphere_in d)) ≡ column_in e → pair_if_near s drift cs p ≡ met s drift cs bs e d
 unfolding visited
 visit-first s drift cs bs e d p meet same first =
     sym (met-visited s drift cs bs e d meet ∙ rw (eq-eqb (first_column (block_at bs (sphere_in e)) (block_at bs (sphere_in d))) (column_in e) first) (ap (pair_if_near s drift cs) (sym same)))
+
+-- the same where it is known whether the pair is near
+pub visit-near : (s : SceneValue) (drift : ℕ) (cs : List Vec3) (bs : List Block) (e d : ℕ) (p : Pair) (n : Bool) → meets bs e d ≡ true → p ≡ pair_in e d →
+    first_column (block_at bs (sphere_in e)) (block_at bs (sphere_in d)) ≡ column_in e → near s drift cs (pair_in e d) ≡ n → (if apart s p && n then p ∷ [] else []) ≡ met s drift cs bs e d
+visit-near s drift cs bs e d p n meet same first seen =
+    ap (λ (t : Bool). if apart s p && t then p ∷ [] else []) (sym seen ∙ ap (near s drift cs) (sym same)) ∙ visit-first s drift cs bs e d p meet same first
 
 -- and nothing elsewhere
 pub visit-later : (s : SceneValue) (drift : ℕ) (cs : List Vec3) (bs : List Block) (e d : ℕ) → meets bs e d ≡ true →

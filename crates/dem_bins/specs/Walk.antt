@@ -1,13 +1,14 @@
 -- The walk over sorted keys: which two keys meet, in which column a pair is added, and what the walk finds.
-use Rattle.std.specs.Prelude.{ℕ, ◌≡◌, ◌+◌, ◌==◌, Bool, not, ◌&&◌, All, List, [], length, max, min, nat_lt, if◌then◌else◌}
+use Rattle.std.specs.Prelude.{ℕ, ◌≡◌, ◌+◌, ◌==◌, ◌<◌, Bool, true, not, ◌&&◌, All, List, [], length, max, min, nat_lt, if◌then◌else◌}
 use Rattle.std.specs.List.{flat_map, range_with_len, sum_by}
 use Rattle.std.specs.List.Sorted.{IsNonDecreasing}
 use Rattle.dem_num.specs.declared.vector.Vec3.{Vec3}
 use Rattle.dem_model.specs.SceneValue.{SceneValue}
+use Rattle.dem_model.specs.Near.{near}
 use Rattle.dem_model.specs.Pairs.{sphere_count, pair_of}
 use Rattle.dem_model.specs.declared.state.Pair.{Pair}
 use Rattle.dem_margin.specs.NearList.{pair_if_near}
-use Rattle.dem_bins.specs.Blocks.{block_at, IsBlock}
+use Rattle.dem_bins.specs.Blocks.{block_at, meet_on, beside, IsBlock}
 use Rattle.dem_bins.specs.Keys.{column_of, column_in, key_of, sphere_in, IsKey}
 use Rattle.dem_bins.specs.declared.blocks.Block.{Block}
 
@@ -15,9 +16,15 @@ use Rattle.dem_bins.specs.declared.blocks.Block.{Block}
 unfoldable pub end_of : List Block → ℕ → ℕ
 end_of bs e = key_of (column_in e) ((block_at bs (sphere_in e)).z.high + 1) 0
 
--- whether a key comes after another, in its column and no higher than its sphere, and is of another sphere
+-- whether a key comes after another, in its column and no higher than its sphere, is of another sphere, and their boxes meet there
 unfoldable pub meets : List Block → ℕ → ℕ → Bool
-meets bs e d = nat_lt e d && nat_lt d (end_of bs e) && not (sphere_in e == sphere_in d)
+meets bs e d = nat_lt e d && nat_lt d (end_of bs e) && not (sphere_in e == sphere_in d) && beside (block_at bs (sphere_in e)) (block_at bs (sphere_in d))
+
+-- of two spheres whose boxes are beside each other, the boxes meet on the third axis exactly where the spheres are near
+abbrev pub AreBoxes : SceneValue → ℕ → List Vec3 → List Block → Type 0
+AreBoxes s drift centers bs =
+    (i j : ℕ) → i < length bs → j < length bs → beside (block_at bs i) (block_at bs j) ≡ true →
+    near s drift centers (pair_of (min i j) (max i j)) ≡ meet_on (block_at bs i).upright (block_at bs j).upright
 
 -- the first of the columns that two blocks both meet
 unfoldable pub first_column : Block → Block → ℕ

@@ -1,4 +1,4 @@
-//! The cells that the box of each sphere meets: from its center less its reach to its center and its reach, on each axis.
+//! The box of each sphere, from its center less its reach to its center and its reach on each axis, and the cells that it meets.
 
 ghost use Rattle.std.specs.Prelude.{◌≡◌, pos, ◌*◌, ◌^◌, ◌<◌, ◌≤◌, IfOk, unsigned_abs};
 ghost use Rattle.dem_model.specs.Motion.{AreInside};
@@ -6,7 +6,16 @@ ghost use Rattle.dem_model.specs.Near.{reach_of};
 ghost use Rattle.dem_model.specs.Pairs.{sphere_count};
 ghost use Rattle.dem_model.specs.Sound.{IsBetween};
 ghost use Rattle.dem_bins.specs.Bins.{IsGridOf};
-ghost use Rattle.dem_bins.specs.Blocks.{span_of, block_of, blocks_of, IsSpan, IsBlock};
+ghost use Rattle.dem_bins.specs.Blocks.{
+  interval_of,
+  cells_of,
+  block_of,
+  blocks_of,
+  meet_on as do_meet,
+  beside,
+  IsSpan,
+  IsBlock,
+};
 
 use crate::grid::Grid;
 use dem_force::center;
@@ -15,19 +24,26 @@ use dem_model::{MAX_POINT, OutOfMemory};
 use dem_shape::{Centers, Shapes};
 use std::alloc::Global;
 
-/// The lowest and the highest cell on one axis, numbered from the fourth below the origin, so that none is negative.
+/// How many bins a column is wide on each of the first two axes.
+pub const WIDE: u64 = 3;
+
+/// The lowest and the highest place of a box on one axis, in u, or those of its cells; counted from the fourth bin below the origin,
+/// so that none is negative.
 #[derive(Clone, Copy)]
 pub struct Span {
     pub low: u64,
     pub high: u64,
 }
 
-/// The cells that the box of a sphere meets.
+/// The columns that the box of a sphere meets on the first two axes, the bins that it meets on the third, and the box.
 #[derive(Clone, Copy)]
 pub struct Block {
     pub x: Span,
     pub y: Span,
     pub z: Span,
+    pub across: Span,
+    pub along: Span,
+    pub upright: Span,
 }
 
 /// The blocks of all spheres, in the order of their numbers.
@@ -60,10 +76,16 @@ fn block_around(shapes: &Shapes, centers: &Centers, grid: &Grid, i: u32) -> Bloc
 {
     let reach = reach_within(shapes, grid, i);
     let c = center(shapes, centers, i);
+    let across = interval(grid.bin(), reach, c.x);
+    let along = interval(grid.bin(), reach, c.y);
+    let upright = interval(grid.bin(), reach, c.z);
     Block {
-        x: span_about(grid.bin(), reach, c.x),
-        y: span_about(grid.bin(), reach, c.y),
-        z: span_about(grid.bin(), reach, c.z),
+        x: cells(grid.bin() * WIDE, across),
+        y: cells(grid.bin() * WIDE, along),
+        z: cells(grid.bin(), upright),
+        across,
+        along,
+        upright,
     }
 }
 
@@ -77,18 +99,45 @@ fn reach_within(shapes: &Shapes, grid: &Grid, i: u32) -> u64
     reach(shapes, grid.drift(), i)
 }
 
-/// The cells that an interval meets, given by its middle and its reach.
-#[tactic(auto, unfolding(crate::specs::Blocks::span_of))]
-fn span_about(bin: u64, reach: u64, c: i64) -> Span
-    requires some { 0 < bin }
+/// The interval in u about a middle, with a reach.
+#[tactic(auto, unfolding(crate::specs::Blocks::interval_of))]
+fn interval(bin: u64, reach: u64, c: i64) -> Span
     requires most { bin ≤ 2 ^ 38 }
     requires reach { reach ≤ 4 * bin }
     requires inside { IsBetween (pos 0) (pos MAX_POINT) c }
-    ensures { result ≡ span_of bin reach (unsigned_abs c) }
+    ensures { result ≡ interval_of bin reach (unsigned_abs c) }
 {
     let middle = c as u64 + 4 * bin;
     Span {
-        low: (middle - reach) / bin,
-        high: (middle + reach) / bin,
+        low: middle - reach,
+        high: middle + reach,
     }
+}
+
+/// The cells of a side that an interval meets.
+#[tactic(auto, unfolding(crate::specs::Blocks::cells_of))]
+fn cells(side: u64, interval: Span) -> Span
+    requires { 0 < side }
+    ensures { result ≡ cells_of side interval }
+{
+    Span {
+        low: interval.low / side,
+        high: interval.high / side,
+    }
+}
+
+/// Whether two boxes meet as they are seen along the third axis.
+#[tactic(auto, unfolding(crate::specs::Blocks::beside))]
+pub fn are_beside(a: &Block, b: &Block) -> bool
+    ensures { result ≡ beside a.now b.now }
+{
+    meet_on(a.across, b.across) && meet_on(a.along, b.along)
+}
+
+/// Whether each of two intervals begins no later than the other ends.
+#[tactic(auto, unfolding(crate::specs::Blocks::meet_on))]
+pub fn meet_on(a: Span, b: Span) -> bool
+    ensures { result ≡ do_meet a b }
+{
+    !(b.high < a.low) && !(a.high < b.low)
 }

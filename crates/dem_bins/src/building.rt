@@ -18,7 +18,7 @@ use dem_shape::{Centers, Shapes, Snapshot};
 use std::alloc::Global;
 use std::sync::ledger::Ledger;
 
-/// Adds all near pairs of a snapshot, in some order.
+/// Adds all near pairs of a snapshot, close to their order.
 pub fn add_all<L: Ledger>(
     alloc: Global,
     raw: &mut RawPairs,
@@ -37,7 +37,9 @@ pub fn add_all<L: Ledger>(
     let _scene = shapes.scene();
     let mut centers = Centers::new(alloc, shapes)?;
     centers.fill(shapes, snap.bodies.as_slice());
-    add_pairs(alloc, raw, shapes, &centers, grid, tests)
+    add_pairs(alloc, raw, shapes, &centers, grid, tests)?;
+    raw.gather(alloc, shapes.spheres())?;
+    Ok(())
 }
 
 /// Adds all near pairs where the centers are these.

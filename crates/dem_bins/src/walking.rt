@@ -1,9 +1,10 @@
 //! The walk over sorted keys: from each key forward to the last that its sphere may meet in that column.
 
-ghost use Rattle.std.specs.Prelude.{All, ◌≡◌, ◌+◌, ◌^◌, ◌<◌, ◌≤◌, ◌++◌, OnOk, length, slice_index, if◌then◌else◌};
+ghost use Rattle.std.specs.Prelude.{All, [], ◌∷◌, ◌&&◌, ◌≡◌, ◌+◌, ◌^◌, ◌<◌, ◌≤◌, ◌++◌, OnOk, length, slice_index, if◌then◌else◌};
 ghost use Rattle.dem_model.specs.Motion.{AreInside};
 ghost use Rattle.dem_bins.specs.Keys.{IsKey};
 ghost use Rattle.dem_bins.specs.Walk.{
+  AreBoxes,
   AreKeys,
   end_of,
   first_column as first_column_of,
@@ -14,15 +15,14 @@ ghost use Rattle.dem_bins.specs.Walk.{
   rows_of,
   rows_visits,
 };
-ghost use Rattle.dem_model.specs.Pairs.{sphere_count};
+ghost use Rattle.dem_model.specs.Pairs.{sphere_count, apart};
 ghost use Rattle.dem_bins.specs.Blocks.{IsBlock};
 
-use crate::blocks::Block;
+use crate::blocks::{Block, are_beside, meet_on};
 use crate::keys::{column, column_of_key, key, sphere_of};
 use dem_list::RawPairs;
-use dem_margin::add_near;
 use dem_model::{OutOfMemory, Pair, Steps};
-use dem_shape::{Centers, Shapes};
+use dem_shape::{Centers, Shapes, is_apart};
 use std::sync::ledger::Ledger;
 
 /// Adds the near pairs of spheres; it counts each visit of two keys.
@@ -38,6 +38,7 @@ pub fn walk<L: Ledger>(
     requires centers { AreInside shapes.now centers.now }
     requires drift { drift ≤ 1024 }
     requires keys { AreKeys shapes.now blocks.now keys.now }
+    requires boxes { AreBoxes shapes.now drift centers.now blocks.now }
     requires room { length raw.old.pairs + length (rows_of shapes.now drift centers.now blocks.now keys.now) + 1 < 2 ^ 32 }
     ensures found { OnOk result (raw.new.pairs ≡ raw.old.pairs ++ rows_of shapes.now drift centers.now blocks.now keys.now) }
     ensures from { raw.new.from ≡ raw.old.from }
@@ -63,6 +64,7 @@ fn add_row<L: Ledger>(
     requires centers { AreInside shapes.now centers.now }
     requires drift { drift ≤ 1024 }
     requires keys { AreKeys shapes.now blocks.now keys.now }
+    requires boxes { AreBoxes shapes.now drift centers.now blocks.now }
     requires there { i < length keys.now }
     requires room { length raw.old.pairs + length (row_of shapes.now drift centers.now blocks.now keys.now (slice_index keys.now i)) + 1 < 2 ^ 32 }
     ensures found { OnOk result (raw.new.pairs ≡ raw.old.pairs ++ row_of shapes.now drift centers.now blocks.now keys.now (slice_index keys.now i)) }
@@ -92,8 +94,9 @@ fn end_after(blocks: &[Block], first: u128) -> u128
     key(column_of_key(first), high + 1, 0)
 }
 
-/// Adds the pair of two keys in the first column that both spheres meet, if it is apart and near. A sphere has one key a column, so
-/// that two keys here are never of one sphere.
+/// Adds the pair of two keys in the first column that both spheres meet, if it is apart and near, which is where the boxes meet on all
+/// axes; spheres whose boxes aren't beside each other are passed over untested. A sphere has one key a column, so that two keys here
+/// are never of one sphere.
 #[tactic(auto, unfolding(crate::specs::Walk::met, crate::specs::Walk::meets, crate::specs::Walk::visited, crate::specs::Walk::pair_in))]
 fn visit<L: Ledger>(
     raw: &mut RawPairs,
@@ -109,6 +112,7 @@ fn visit<L: Ledger>(
     requires drift { drift ≤ 1024 }
     requires count { length blocks.now ≡ sphere_count shapes.now }
     requires blocks { All IsBlock blocks.now }
+    requires boxes { AreBoxes shapes.now drift centers.now blocks.now }
     requires first { IsKey blocks.now first }
     requires second { IsKey blocks.now second }
     requires order { first ≤ second }
@@ -123,16 +127,34 @@ fn visit<L: Ledger>(
     if a == b {
         return Ok(());
     }
+    if !are_beside(&blocks[a as usize], &blocks[b as usize]) {
+        return Ok(());
+    }
     tests.tick();
     if first_column(&blocks[a as usize], &blocks[b as usize]) == column_of_key(first) {
         let pair = Pair {
             a: a.min(b),
             b: a.max(b),
         };
-        add_near(raw, shapes, centers, drift, pair)
+        let near = meet_on(blocks[a as usize].upright, blocks[b as usize].upright);
+        add_apart(raw, shapes, pair, near)
     } else {
         Ok(())
     }
+}
+
+/// Adds a pair of spheres that is known to be near or not, if it is near and apart.
+fn add_apart(raw: &mut RawPairs, shapes: &Shapes, pair: Pair, near: bool) -> Result<(), OutOfMemory>
+    requires first { pair.a < sphere_count shapes.now }
+    requires later { pair.a < pair.b }
+    requires room { length raw.old.pairs + 1 < 2 ^ 32 }
+    ensures found { OnOk result (raw.new.pairs ≡ raw.old.pairs ++ (if apart shapes.now pair && near then pair ∷ [] else [])) }
+    ensures from { raw.new.from ≡ raw.old.from }
+{
+    if is_apart(shapes, pair) && near {
+        return raw.add(pair);
+    }
+    Ok(())
 }
 
 /// The first of the columns that two blocks both meet.

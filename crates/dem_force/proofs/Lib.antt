@@ -10,3 +10,5 @@ pub mod SumFacts
 pub mod SwingFacts
 pub mod SwingLaw
 pub mod TouchFacts
+pub mod NothingFacts
+pub mod StillSpinFacts

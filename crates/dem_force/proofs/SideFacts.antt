@@ -9,19 +9,12 @@ use Rattle.dem_model.specs.Ranges.{IsFirst, wall_side_of}
 use Rattle.dem_model.specs.Step.{side_at}
 use Rattle.dem_model.specs.declared.law.Side.{Side}
 use Rattle.dem_model.specs.declared.state.Body.{Body}
-use Rattle.dem_shape.specs.declared.pose.Pose.{Pose}
-use Rattle.dem_shape.specs.Pose.{IsPose}
 
 -- the sides below i are made
 pub record AreMade (s : SceneValue) (bodies : List Body) (i : ℕ) (sides : List Side) : Type 0 where
   pub count : length sides ≡ sphere_count s
   pub each : (j : ℕ) → j < i → get_or sides j wall_side_of ≡ side_at s bodies j
   pub ranges : (j : ℕ) → j < i → IsFirst (get_or sides j wall_side_of)
-
--- the sides below i are made, and the pose is that of its clump
-pub record AreMadeBy (s : SceneValue) (bodies : List Body) (i : ℕ) (sides : List Side) (pose : Pose) : Type 0 where
-  pub made : AreMade s bodies i sides
-  pub pose_is : IsPose s bodies pose.clump pose
 
 -- the sides before the new one stay
 before_stays : (i j : ℕ) (sides : List Side) (x : Side) → j < i → get_or (set sides i x) j wall_side_of ≡ get_or sides j wall_side_of

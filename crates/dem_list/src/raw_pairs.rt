@@ -1,11 +1,13 @@
 //! Pairs in the order in which they were found, on the way to a sorted list.
 
-ghost use Rattle.std.specs.Prelude.{◌≡◌, ◌+◌, ◌<◌, ◌^◌, ◌++◌, [], ◌∷◌, length, OnOk, OnErr, vec_len};
+ghost use Rattle.std.specs.Prelude.{◌≡◌, ◌+◌, ◌<◌, ◌^◌, ◌++◌, [], ◌∷◌, length, OnOk, OnErr, IsPermutation, vec_len};
 ghost use Rattle.dem_list.specs.Ascending.{Pairs, IsAscending, HasSamePairs};
 
+use crate::gathering::gather;
 use crate::order::key;
 use crate::pair_list::PairList;
 use dem_model::{OutOfMemory, Pair};
+use std::alloc::Global;
 use std::marker::Model;
 
 /// Pairs in any order, with repetitions, fewer than 2^32, and the step that they were made from.
@@ -34,6 +36,15 @@ impl RawPairs {
             Ok(()) => Ok(()),
             Err(_) => Err(OutOfMemory),
         }
+    }
+
+    /// Brings the pairs close to their order, so that settling them takes little time where all first numbers are below `firsts`.
+    /// The pairs stay the same, after a refusal too.
+    pub fn gather(&mut self, alloc: Global, firsts: u32) -> Result<(), OutOfMemory>
+        ensures from { self.new.from ≡ self.old.from }
+        ensures moved { IsPermutation self.old.pairs self.new.pairs }
+    {
+        gather(alloc, self.pairs.as_mut_slice(), firsts)
     }
 
     /// The added pairs, each once, in ascending order; sorted in place, without memory.

@@ -46,7 +46,7 @@ impl From<OutOfMemory> for LookFault {
 }
 
 /// Makes the plain run of a scene and writes what is seen of it: a row for each frame of its output, and the end row; answers how
-/// the run ended.
+/// the run ended. Where a put fails or memory is refused, `out` gained a prefix of that.
 pub fn look<K: Sink>(alloc: Global, scene: &Scene, out: &mut K) -> Result<Last, LookFault>
     ensures { WritesLook scene.now (K.held out.old) (K.held out.new) (K.faults out.old) (K.faults out.new) result }
 {

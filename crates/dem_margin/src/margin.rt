@@ -1,7 +1,8 @@
 //! How far a sphere may reach before a list is too old, and whether a pair is near.
 
 ghost use Rattle.std.specs.Prelude.{◌≡◌, ◌+◌, ◌^◌, ◌<◌, ◌≤◌, not, nat_lt, unsigned_abs};
-ghost use Rattle.dem_num.specs.Vectors.{widened, difference_of, Within};
+ghost use Rattle.dem_num.specs.Numbers.{AtMost};
+ghost use Rattle.dem_num.specs.Vectors.{Within};
 ghost use Rattle.dem_model.specs.Motion.{AreInside, IsPair};
 ghost use Rattle.dem_model.specs.Near.{drift_of, reach_of, spheres_near, near as is_near};
 ghost use Rattle.dem_model.specs.Pairs.{sphere_count};
@@ -9,7 +10,7 @@ ghost use Rattle.dem_model.specs.declared.limits.TheConstants.{MAX_DRIFT};
 
 use dem_force::{center, wall_beside};
 use dem_model::{Pair, Steps};
-use dem_num::{Vec3, Wide3, sub3, widen};
+use dem_num::{Wide3, narrow, place_difference};
 use dem_shape::{Centers, Shapes};
 use dem_wall::wall_near;
 use std::sync::ledger::Ledger;
@@ -66,7 +67,7 @@ pub fn tested(shapes: &Shapes, centers: &Centers, pair: Pair, drift: u32) -> boo
     if pair.b < shapes.spheres() {
         let second = center(shapes, centers, pair.b);
         let reach = reach(shapes, drift, pair.a) + reach(shapes, drift, pair.b);
-        within(between(first, second), reach)
+        within(place_difference(first, second), reach)
     } else {
         let wall = wall_beside(shapes, pair);
         let extra = moved(shapes, drift, pair.a);
@@ -74,18 +75,10 @@ pub fn tested(shapes: &Shapes, centers: &Centers, pair: Pair, drift: u32) -> boo
     }
 }
 
-/// The first place less the second.
-fn between(first: Vec3, second: Vec3) -> Wide3
-    requires first { Within (widened first) (2 ^ 36) }
-    requires second { Within (widened second) (2 ^ 36) }
-    ensures { result ≡ difference_of (widened first) (widened second) }
-{
-    sub3(widen(first), widen(second))
-}
-
 /// Whether no component of a difference is greater than this reach in size.
 #[tactic(auto, unfolding(dem_model::specs::Near::spheres_near))]
 fn within(d: Wide3, reach: u64) -> bool
+    requires { Within d (2 ^ 37) }
     ensures { result ≡ spheres_near d reach }
 {
     within_axis(d.x, reach) && within_axis(d.y, reach) && within_axis(d.z, reach)
@@ -93,7 +86,8 @@ fn within(d: Wide3, reach: u64) -> bool
 
 /// Whether a component is no greater than this reach in size.
 fn within_axis(component: i128, reach: u64) -> bool
+    requires { AtMost component (2 ^ 37) }
     ensures { result ≡ not (nat_lt reach (unsigned_abs component)) }
 {
-    !((reach as u128) < component.unsigned_abs())
+    !(reach < narrow(component).unsigned_abs())
 }

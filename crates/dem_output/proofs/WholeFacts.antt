@@ -1,7 +1,7 @@
 -- The output of a scene, cut at a state of the plain run: the frames up to there, and what follows.
-use Rattle.std.proofs.Common.{◌≡◌, ℕ, zero, suc, ◌+◌, ◌-◌, ◌<◌, ◌≤◌, Bool, true, false, inl, inr, List, [], ◌∷◌, ◌++◌, Option, None, Some, Result, Ok, Err, refl, sym, ap, ◌∙◌, subst, add-one, zero-add, suc-add, append_assoc, append-nil, arith}
+use Rattle.std.proofs.Common.{◌≡◌, ℕ, zero, suc, ◌+◌, ◌-◌, ◌<◌, ◌≤◌, true, inl, inr, List, [], ◌∷◌, ◌++◌, Some, Result, Ok, Err, refl, sym, ap, ◌∙◌, subst, add-one, zero-add, suc-add, append_assoc, append-nil, arith}
 use Rattle.std.specs.Prelude.{nat_lt, option_and_then}
-use Rattle.std.specs.List.{flat_map, filter_map, range_with_len}
+use Rattle.std.specs.List.{flat_map, range_with_len}
 use Rattle.std.specs.Result.{result_ok}
 use Rattle.std.proofs.lemmas.Bool.{ltb-true, cases_Bool}
 use Rattle.std.proofs.lemmas.Grind.{flat_map-append}
@@ -13,7 +13,6 @@ use Rattle.dem_model.specs.Plain.{first_state, state_after, run_after, last_afte
 use Rattle.dem_model.specs.Frames.{state_text, last_text}
 use Rattle.dem_model.specs.Output.{due_text, due_state, due_states, is_due, run_text, output_of, rest_of}
 use Rattle.dem_model.specs.declared.state.State.{State}
-use Rattle.dem_model.specs.declared.state.End.{End}
 use Rattle.dem_output.proofs.RunLaw.{step_of-step, begins-at, frames_at, frames-more}
 use Rattle.dem_output.proofs.RunFacts.{rest-next, last-next}
 

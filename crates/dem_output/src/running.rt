@@ -16,7 +16,9 @@ use std::alloc::Global;
 /// Why a run stopped before its output was written.
 #[derive(Clone, Copy, PartialEq, Debug)]
 pub enum RunFault {
+    /// A put failed; the sink's count of faults says so.
     WriteFault,
+    /// Memory was refused.
     OutOfMemory,
 }
 
@@ -46,7 +48,7 @@ pub fn write_run<K: Sink>(alloc: Global, scene: &Scene, out: &mut K) -> Result<L
 }
 
 /// Goes on with a run of a scene to its end, and writes what follows the frame of its state: the frames that are due of the states
-/// after it, and the end row. Answers how the run ended.
+/// after it, and the end row. Answers how the run ended; where a put fails or memory is refused, `out` gained a prefix of that.
 pub fn write_rest<K: Sink>(scene: &Scene, mut run: PlainRun, out: &mut K) -> Result<Last, RunFault>
     requires same { run.scene ≡ scene.now }
     requires in_range { run.state.step ≤ scene.now.steps }

@@ -24,6 +24,7 @@ use Rattle.dem_model.specs.declared.state.EndKind.{EndKind}
 use Rattle.dem_model.specs.declared.state.Held.{Held}
 use Rattle.dem_model.specs.declared.state.Pair.{Pair}
 use Rattle.dem_model.specs.declared.state.State.{State}
+use Rattle.dem_shape.specs.Matrices.{AreMatrices}
 use Rattle.dem_force.specs.Places.{HasPlaces}
 use Rattle.dem_force.specs.Sides.{AreSides}
 use Rattle.dem_force.specs.declared.pushing.spheres.Spheres.{Spheres}
@@ -229,9 +230,9 @@ pub length-centers_of : (s : SceneValue) (bodies : List Body) → length (center
 unfolding centers_of sphere_count
 length-centers_of s bodies = length-map (spheres_of s) (placed bodies)
 
--- where all spheres are filled there is a center and a side for each
-pub filled_places : (s : SceneValue) (bodies : List Body) (spheres : Spheres) → spheres.centers ≡ centers_of s bodies → AreSides s bodies spheres.sides → HasPlaces s spheres
-filled_places s bodies spheres e sides = record { centers = ap length e ∙ length-centers_of s bodies; sides = sides.count }
+-- where all is filled there is a matrix for each clump, and a center and a side for each sphere
+pub filled_places : (s : SceneValue) (bodies : List Body) (spheres : Spheres) → AreMatrices s bodies spheres.matrices → spheres.centers ≡ centers_of s bodies → AreSides s bodies spheres.sides → HasPlaces s spheres
+filled_places s bodies spheres matrices e sides = record { matrices = matrices.count; centers = ap length e ∙ length-centers_of s bodies; sides = sides.count }
 
 -- a run with room is a run
 pub run_kept : (s : SceneValue) (old new : Spheres) (st : State) (whole : Bool) → IsRun s old st whole → HasPlaces s new → IsRun s new st whole

@@ -40,10 +40,37 @@ body-fits s b sound h =
     let qa = q.a in
     let qb = q.b in
     let qc = q.c in
-    let qd = q.d in
-    (fits_stored b.p.x p.x, (fits_stored b.p.y p.y, (fits_stored b.p.z p.z, (fits_stored b.v.x v.x, (fits_stored b.v.y v.y, (fits_stored b.v.z v.z,
-    (fits_stored b.q.a (omega arith), (fits_stored b.q.b (omega arith), (fits_stored b.q.c (omega arith), (fits_stored b.q.d (omega arith),
-    (fits_stored b.w.x w.x, (fits_stored b.w.y w.y, (fits_stored b.w.z w.z, tt)))))))))))))
+    let qd = q.d in (
+      fits_stored b.p.x p.x,
+      (
+        fits_stored b.p.y p.y,
+        (
+          fits_stored b.p.z p.z,
+          (
+            fits_stored b.v.x v.x,
+            (
+              fits_stored b.v.y v.y,
+              (
+                fits_stored b.v.z v.z,
+                (
+                  fits_stored b.q.a (omega arith),
+                  (
+                    fits_stored b.q.b (omega arith),
+                    (
+                      fits_stored b.q.c (omega arith),
+                      (
+                        fits_stored b.q.d (omega arith),
+                        (fits_stored b.w.x w.x, (fits_stored b.w.y w.y, (fits_stored b.w.z w.z, tt))),
+                      ),
+                    ),
+                  ),
+                ),
+              ),
+            ),
+          ),
+        ),
+      ),
+    )
 
 -- the bodies of a fit state fit
 bodies-fit : (s : SceneValue) (st : State) → IsSound s → IsFit s st → All BodyFits st.bodies
@@ -99,3 +126,8 @@ unfolding loaded_of
 frame-loads s sound st fit =
     ap (then_checked s) (state_frame st (length s.clumps) (fit-writable s st sound fit) (sym fit.bodies.count))
     ∙ fit-checked s st fit
+
+-- the rows of a fit state load as that state
+pub rows-load : (s : SceneValue) (bytes : List ℕ) (st : State) → frame_of (length s.clumps) bytes ≡ Ok st → IsFit s st → loaded_of s bytes ≡ Ok st
+unfolding loaded_of
+rows-load s bytes st rows fit = ap (then_checked s) rows ∙ fit-checked s st fit

@@ -10,8 +10,13 @@ use dem_plain::PlainRun;
 use std::alloc::Global;
 
 /// Makes the run from a fit state and writes what follows its frame, each row as it comes: the frames that are due after
-/// it, and the end row. Answers how the run ended.
-pub fn rest<K: Sink>(alloc: Global, scene: &Scene, state: State, out: &mut K) -> Result<Last, RestFault>
+/// it, and the end row. Answers how the run ended; where a put fails or memory is refused, `out` gained a prefix of that.
+pub fn rest<K: Sink>(
+    alloc: Global,
+    scene: &Scene,
+    state: State,
+    out: &mut K,
+) -> Result<Last, RestFault>
     requires fit { IsFit scene.now state }
     ensures { WritesRest scene.now state (K.held out.old) (K.held out.new) (K.faults out.old) (K.faults out.new) result }
 {

@@ -1,4 +1,5 @@
 pub mod FillFacts
+pub mod MatrixFacts
 pub mod PoseFacts
 pub mod TableFacts
 pub mod StepFacts

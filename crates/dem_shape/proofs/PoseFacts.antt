@@ -3,6 +3,7 @@ use Rattle.std.proofs.Common.{◌≡◌, ℕ, ◌*◌, ◌^◌, ◌<◌, ◌≤�
 use Rattle.std.specs.Prelude.{ℤ, pos, negsuc, unsigned_abs, IsTrue, not, ◌&&◌, int_lt}
 use Rattle.std.proofs.lemmas.Bool.{and_parts, ltb-true}
 use Rattle.std.proofs.lemmas.List.{get_or_default}
+use Rattle.dem_num.specs.declared.vector.Rows.{Rows}
 use Rattle.dem_num.specs.declared.vector.Vec3.{Vec3}
 use Rattle.dem_num.specs.declared.vector.Wide3.{Wide3}
 use Rattle.dem_num.specs.Vectors.{widened, narrowed, sum_of, is_zero, Within}
@@ -15,6 +16,7 @@ use Rattle.dem_model.specs.Spheres.{Sphere, center_of}
 use Rattle.dem_model.specs.Centers.{body_at, still_body, placed}
 use Rattle.dem_model.specs.Motion.{AreSound}
 use Rattle.dem_model.specs.declared.limits.TheConstants.{MAX_VOXELS, VOXEL}
+use Rattle.dem_model.specs.declared.shape.Ball.{Ball}
 use Rattle.dem_model.specs.declared.state.Body.{Body}
 use Rattle.dem_shape.specs.declared.pose.Pose.{Pose}
 use Rattle.dem_shape.specs.Pose.{IsPose}
@@ -90,3 +92,21 @@ unfolding placed center_of
 own_places bodies x k d lt e zero =
     ap (λ (b : Body). b.p) (body_read bodies k d lt ∙ ap (body_at bodies) e)
     ∙ ap narrowed (sym (sum_turned_zero (widened (body_at bodies x.clump).p) (matrix_of (body_at bodies x.clump).q) (widened x.ball.at) zero))
+
+-- a sphere stands at its clump's place and its offset, turned by the clump's matrix
+pub turned_places : (bodies : List Body) (x : Sphere) (k : ℕ) (d : Body) (rows : Rows) (at : Ball) (c : Vec3) → k < length bodies → k ≡ x.clump → at ≡ x.ball →
+    rows ≡ matrix_of (body_at bodies k).q → widened c ≡ sum_of (widened (get_or bodies k d).p) (turned_by rows (widened at.at)) → c ≡ placed bodies x
+unfolding placed center_of
+turned_places bodies x k d rows at c lt here ball r e =
+    ap narrowed e
+    ∙ ap (λ (b : Body). narrowed (sum_of (widened b.p) (turned_by rows (widened at.at)))) (body_read bodies k d lt)
+    ∙ ap (λ m. narrowed (sum_of (widened (body_at bodies k).p) (turned_by m (widened at.at)))) r
+    ∙ ap (λ n. narrowed (sum_of (widened (body_at bodies n).p) (turned_by (matrix_of (body_at bodies n).q) (widened at.at)))) here
+    ∙ ap (λ (a : Ball). narrowed (sum_of (widened (body_at bodies x.clump).p) (turned_by (matrix_of (body_at bodies x.clump).q) (widened a.at)))) ball
+
+-- the place of a sound body is small
+pub read_place : (s : SceneValue) (bodies : List Body) (k : ℕ) (d : Body) → IsSound s → AreSound s bodies → k < length s.clumps → Within (widened (get_or bodies k d).p) (2 ^ 37)
+read_place s bodies k d scene sound there =
+    let e : get_or bodies k d ≡ body_at bodies k = body_read bodies k d (omega (arith, sound.count)) in
+    let small : Within (widened (body_at bodies k).p) (2 ^ 36) = in_box-small s (widened (body_at bodies k).p) scene (sound.each k there).body.p in
+    subst (λ (b : Body). Within (widened b.p) (2 ^ 37)) (sym e) (record { x = omega (arith, small.x); y = omega (arith, small.y); z = omega (arith, small.z) })

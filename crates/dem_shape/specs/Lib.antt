@@ -1,2 +1,3 @@
+pub mod Matrices
 pub mod Pose
 pub mod Table

@@ -2,13 +2,15 @@
 
 ghost use Rattle.std.specs.Prelude.{ℕ, ◌≡◌, ◌≢◌, ◌<◌, length, IfOk};
 ghost use Rattle.dem_num.specs.Vectors.{narrowed};
-ghost use Rattle.dem_model.specs.Centers.{centers_of, center_at};
+ghost use Rattle.dem_model.specs.Centers.{centers_of, center_at, placed};
 ghost use Rattle.dem_model.specs.Motion.{AreSound};
 ghost use Rattle.dem_model.specs.Pairs.{sphere_count, sphere_at};
 ghost use Rattle.dem_model.specs.Sound.{IsBodyOf};
 ghost use Rattle.dem_model.specs.Spheres.{center_of};
 ghost use Rattle.dem_model.specs.Step.{clump_at};
+ghost use Rattle.dem_shape.specs.Matrices.{AreMatrices};
 
+use crate::matrices::Matrices;
 use crate::pose::{Pose, own_place, sphere_center};
 use crate::shapes::Shapes;
 use dem_model::{Body, OutOfMemory};
@@ -64,6 +66,18 @@ impl Centers {
         }
     }
 
+    /// The same, by the matrices of these bodies.
+    pub fn fill_by(&mut self, shapes: &Shapes, bodies: &[Body], matrices: &Matrices)
+        requires made { length self.old ≡ sphere_count shapes.now }
+        requires sound { AreSound shapes.now bodies.now }
+        requires matrices { AreMatrices shapes.now bodies.now matrices.now }
+        ensures { self.new ≡ centers_of shapes.now bodies.now }
+    {
+        for s in 0..shapes.spheres() {
+            self.items[s as usize] = place_by(shapes, bodies, matrices, s);
+        }
+    }
+
     /// Sets the centers of one clump's spheres to where this body puts them; all others stay. It goes through the table of
     /// spheres once.
     pub fn put(&mut self, shapes: &Shapes, clump: u32, body: &Body)
@@ -92,4 +106,31 @@ impl Centers {
     {
         self.items[s as usize]
     }
+}
+
+/// The center of a sphere, in u, where these are the matrices of the bodies.
+fn place_by(shapes: &Shapes, bodies: &[Body], matrices: &Matrices, s: u32) -> Vec3
+    requires sound { AreSound shapes.now bodies.now }
+    requires matrices { AreMatrices shapes.now bodies.now matrices.now }
+    requires sphere { s < sphere_count shapes.now }
+    ensures { result ≡ placed bodies.now (sphere_at shapes.now s) }
+{
+    if is_zero(shapes.ball_of(s).at) {
+        own_place(shapes, bodies, s)
+    } else {
+        turned_place(shapes, bodies, matrices, s)
+    }
+}
+
+/// The center of a sphere, in u, by its turned offset.
+fn turned_place(shapes: &Shapes, bodies: &[Body], matrices: &Matrices, s: u32) -> Vec3
+    requires sound { AreSound shapes.now bodies.now }
+    requires matrices { AreMatrices shapes.now bodies.now matrices.now }
+    requires sphere { s < sphere_count shapes.now }
+    ensures { result ≡ placed bodies.now (sphere_at shapes.now s) }
+{
+    let _scene = shapes.scene();
+    let clump = shapes.clump_of(s);
+    let ball = shapes.ball_of(s);
+    sphere_center(bodies[clump as usize].p, matrices.get(clump), ball.at)
 }

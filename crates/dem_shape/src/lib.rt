@@ -2,14 +2,15 @@
 //!
 //! `Shapes` numbers the spheres through all clumps in order and answers each one's clump, template sphere, arm and
 //! movement bound in constant time; `is_apart` tells which pairs may touch at all; `Centers` holds a center per sphere,
-//! `Snapshot` the bodies of a step, `Pose` one clump's matrix. Means: `Spheres`, `Pairs`, `Centers`, `Motion` of dem_model. Callers rest on: a Shapes
+//! `Snapshot` the bodies of a step, `Pose` one clump's matrix, `Matrices` those of all. Means: `Spheres`, `Pairs`, `Centers`, `Motion` of dem_model. Callers rest on: a Shapes
 //! is seen as its scene, a Centers as the list of centers; `fill` makes them those of the bodies, `put`
-//! those of one clump. Takes memory: the three `new`, `first_bodies`. Not here: touch (dem_force), rotations (dem_turn).
+//! those of one clump. Takes memory: the four `new`, `first_bodies`. Not here: touch (dem_force), rotations (dem_turn).
 #![tactic(auto)]
 
 mod apart;
 mod centers;
 mod entry;
+mod matrices;
 mod pose;
 mod shapes;
 mod snapshot;
@@ -17,6 +18,7 @@ mod start;
 
 pub use apart::{all_pairs_law, is_apart};
 pub use centers::Centers;
+pub use matrices::Matrices;
 pub use pose::{Pose, sphere_center};
 pub use shapes::Shapes;
 pub use snapshot::Snapshot;

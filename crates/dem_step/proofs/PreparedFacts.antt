@@ -11,7 +11,7 @@ use Rattle.dem_step.specs.declared.prepared.Prepared.{Prepared}
 
 -- what was made has its room
 prepared_places : (s : SceneValue) (bodies unpacked : List Body) (spheres : Spheres) → ArePrepared s bodies unpacked spheres → HasPlaces s spheres
-prepared_places s bodies unpacked spheres h = record { centers = ap length h.centers_are ∙ length-centers_of s bodies; sides = h.sides_are.count }
+prepared_places s bodies unpacked spheres h = record { matrices = h.matrices_are.count; centers = ap length h.centers_are ∙ length-centers_of s bodies; sides = h.sides_are.count }
 
 -- what was made may be used for the same bodies
 pub prepared_kept : (s : SceneValue) (bodies : List Body) (p : Prepared) → AreSound s bodies → ArePrepared s bodies p.unpacked p.spheres → CanPrepare s bodies p

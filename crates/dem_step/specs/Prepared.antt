@@ -1,8 +1,9 @@
--- What a step needs of the bodies alone: the bodies unpacked, and where all spheres are and how they move.
+-- What a step needs of the bodies alone: the bodies unpacked, their matrices, and where all spheres are and how they move.
 use Rattle.std.specs.Prelude.{◌≡◌, true, false, List, length}
 use Rattle.dem_model.specs.SceneValue.{SceneValue}
 use Rattle.dem_model.specs.Centers.{centers_of}
 use Rattle.dem_model.specs.declared.state.Body.{Body}
+use Rattle.dem_shape.specs.Matrices.{AreMatrices}
 use Rattle.dem_force.specs.Places.{HasPlaces}
 use Rattle.dem_force.specs.Sides.{AreSides}
 use Rattle.dem_force.specs.declared.pushing.spheres.Spheres.{Spheres}
@@ -11,6 +12,7 @@ use Rattle.dem_step.specs.declared.prepared.Prepared.{Prepared}
 -- they are those of these bodies
 pub record ArePrepared (s : SceneValue) (bodies unpacked : List Body) (spheres : Spheres) : Type 0 where
   pub bodies_are : unpacked ≡ bodies
+  pub matrices_are : AreMatrices s bodies spheres.matrices
   pub centers_are : spheres.centers ≡ centers_of s bodies
   pub sides_are : AreSides s bodies spheres.sides
 

@@ -6,29 +6,32 @@ ghost use Rattle.dem_model.specs.Motion.{AreSound};
 ghost use Rattle.dem_model.specs.Position.{in_box};
 ghost use Rattle.dem_model.specs.Sound.{IsBody};
 ghost use Rattle.dem_model.specs.Step.{no_load, advanced_from};
+ghost use Rattle.dem_shape.specs.Matrices.{AreMatrices};
 ghost use Rattle.dem_force.specs.Loads.{AreLoads};
 ghost use Rattle.dem_voxel.specs.Voxel.{unpacked};
 
 use crate::stored::StoredBodies;
-use dem_force::advance;
+use dem_force::advance_by;
 use dem_model::{Body, End, Load};
 use dem_num::{Vec3, sh_short};
-use dem_shape::Shapes;
+use dem_shape::{Matrices, Shapes};
 use dem_voxel::{VoxelPos, moved};
 
 /// Puts the bodies after the step of this number under these loads into `next`, or tells the first limit that a clump passes.
-/// The bodies before it are given as they are stored, and unpacked.
+/// The bodies before it are given as they are stored, and unpacked, and their matrices.
 pub fn advance_all(
     next: &mut StoredBodies,
     shapes: &Shapes,
     stored: &StoredBodies,
     bodies: &[Body],
+    matrices: &Matrices,
     loads: &[Load],
     step: u32,
 ) -> Result<(), End>
     requires room { length next.old ≡ length shapes.now.clumps }
     requires sound { AreSound shapes.now bodies.now }
     requires same { stored.now ≡ bodies.now }
+    requires matrices { AreMatrices shapes.now bodies.now matrices.now }
     requires loads { AreLoads shapes.now loads.now }
     ensures advanced { OnOk result (advanced_from shapes.now step 0 shapes.now.clumps bodies.now loads.now ≡ Ok next.new) }
     ensures sound { OnOk result (AreSound shapes.now next.new) }
@@ -37,14 +40,12 @@ pub fn advance_all(
 {
     for k in 0..shapes.scene().clumps.len() {
         let load = loads[k];
-        match advance(shapes, k as u32, &bodies[k], load.force, load.torque) {
+        let clump = k as u32;
+        let rows = matrices.get(clump);
+        match advance_by(shapes, clump, rows, &bodies[k], load.force, load.torque) {
             Ok(body) => next.put(k, moved_with(shapes, stored.voxel(k), &body), &body),
             Err(kind) => {
-                return Err(End {
-                    step,
-                    kind,
-                    clump: k as u32,
-                });
+                return Err(End { step, kind, clump });
             }
         }
     }

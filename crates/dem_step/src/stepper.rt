@@ -160,6 +160,7 @@ impl<'s> Dyn<'s> {
             self.shapes,
             &self.bodies,
             self.prepared.unpacked.as_slice(),
+            &self.prepared.spheres.matrices,
             self.loads.as_slice(),
             self.step + 1,
         ) {

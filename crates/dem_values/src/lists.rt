@@ -33,3 +33,18 @@ fn goes_round_as_a_buffer(rt: HostRuntime) -> Result<(), Fail> {
     assert_eq!(rt; list.get(0), Pair { a: 5, b: 6 });
     Ok(())
 }
+
+#[test]
+fn gathers_and_settles(rt: HostRuntime) -> Result<(), Fail> {
+    let mut raw = PairList::empty(rt.alloc()).raw(3);
+    raw.add(Pair { a: 2, b: 9 })?;
+    raw.add(Pair { a: 0, b: 4 })?;
+    raw.add(Pair { a: 2, b: 5 })?;
+    raw.gather(rt.alloc(), 3)?;
+    let list = raw.settle();
+    assert_eq!(rt; list.len(), 3);
+    assert_eq!(rt; list.get(0), Pair { a: 0, b: 4 });
+    assert_eq!(rt; list.get(1), Pair { a: 2, b: 5 });
+    assert_eq!(rt; list.get(2), Pair { a: 2, b: 9 });
+    Ok(())
+}

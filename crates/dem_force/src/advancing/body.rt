@@ -1,9 +1,9 @@
 //! One clump's step: the new velocity and spin, and the body that they lead to.
 
-ghost use Rattle.std.specs.Prelude.{◌≡◌, pos, ◌*◌, ◌^◌, ◌≤◌, ◌+ℤ◌, ◌-ℤ◌, ◌*ℤ◌, unsigned_abs};
+ghost use Rattle.std.specs.Prelude.{◌≡◌, true, pos, ◌*◌, ◌^◌, ◌≤◌, ◌+ℤ◌, ◌-ℤ◌, ◌*ℤ◌, unsigned_abs};
 ghost use Rattle.dem_num.specs.Numbers.{AtMost, quotient, shifted};
-ghost use Rattle.dem_num.specs.Vectors.{widened, narrowed, clamped_each, Within};
-ghost use Rattle.dem_num.specs.Rotations.{IsOrientation};
+ghost use Rattle.dem_num.specs.Vectors.{widened, narrowed, is_zero, clamped_each, Within};
+ghost use Rattle.dem_num.specs.Rotations.{IsOrientation, EntriesWithin, matrix_of};
 ghost use Rattle.dem_model.specs.Sound.{EachBetween, IsBetween};
 ghost use Rattle.dem_model.specs.Advance.{
   velocity_after,
@@ -15,8 +15,8 @@ ghost use Rattle.dem_model.specs.Advance.{
 };
 
 use dem_model::{Body, MAX_MOMENT, MAX_TORQUE};
-use dem_num::{Vec3, Wide3, add, cl3, mul, narrow, reciprocal, sh, sub, tdiv_by};
-use dem_turn::{matrix, turn_step, turned_back};
+use dem_num::{Rows, Vec3, WIDE_ZERO, Wide3, add, cl3, mul, narrow, reciprocal, sh, sub, tdiv_by};
+use dem_turn::{is_zero, turn_step, turned_back};
 
 /// The new velocity: the old one, gravity, and force over mass.
 #[tactic(auto, unfolding(dem_model::specs::Advance::velocity_after))]
@@ -61,14 +61,16 @@ fn acceleration(force: i128, mass: u64, inverse: u64) -> i128
     tdiv_by(force, mass, inverse)
 }
 
-/// The torque in body axes.
+/// The torque in the axes of a body, of which these are the rows of the matrix.
 #[tactic(auto, unfolding(dem_model::specs::Advance::body_torque_of))]
-pub fn body_torque(body: &Body, torque: Wide3) -> Wide3
-    requires { IsOrientation body.now.q }
+fn body_torque(body: &Body, rows: &Rows, torque: Wide3) -> Wide3
+    requires rows { rows.now ≡ matrix_of body.now.q }
+    requires entries { EntriesWithin rows.now (2 ^ 30) }
     ensures value { result ≡ body_torque_of body.now torque }
     ensures size { Within result (2 ^ 92) }
 {
-    turned_back(&matrix(body.q), kept_torque(torque))
+    let _axes_of = body;
+    turned_back(rows, kept_torque(torque))
 }
 
 /// A torque, each component brought within the greatest.
@@ -79,9 +81,41 @@ fn kept_torque(torque: Wide3) -> Wide3
     cl3(torque, MAX_TORQUE as i128)
 }
 
+/// The new spin in body axes, from the moments of inertia, the body, the rows of its matrix and the torque in world axes:
+/// none where there is neither spin nor torque.
+pub fn next_spin(moments: Vec3, body: &Body, rows: &Rows, torque: Wide3) -> Wide3
+    requires moments_within { EachBetween (pos 1) (pos MAX_MOMENT) moments }
+    requires old_small { Within (widened body.now.w) (2 ^ 28) }
+    requires rows { rows.now ≡ matrix_of body.now.q }
+    requires entries { EntriesWithin rows.now (2 ^ 30) }
+    ensures value { result ≡ spin_after moments body.now.w (body_torque_of body.now torque) }
+    ensures size { Within result (2 ^ 94) }
+{
+    if are_zero(body.w, torque) {
+        WIDE_ZERO
+    } else {
+        spin(moments, body.w, body_torque(body, rows, torque))
+    }
+}
+
+/// Whether a spin and a torque are both zero.
+fn are_zero(w: Vec3, torque: Wide3) -> bool
+    ensures spin { result ≡ true → is_zero (widened w) ≡ true }
+    ensures torque { result ≡ true → is_zero torque ≡ true }
+{
+    is_zero(w) && is_nothing(torque)
+}
+
+/// Whether each component of a torque is zero.
+fn is_nothing(a: Wide3) -> bool
+    ensures { result ≡ is_zero a }
+{
+    a.x == 0 && a.y == 0 && a.z == 0
+}
+
 /// The new spin in body axes, from the moments of inertia, the old spin and the torque.
 #[tactic(auto, unfolding(dem_model::specs::Advance::spin_after))]
-pub fn spin(moments: Vec3, w: Vec3, torque: Wide3) -> Wide3
+fn spin(moments: Vec3, w: Vec3, torque: Wide3) -> Wide3
     requires moments_within { EachBetween (pos 1) (pos MAX_MOMENT) moments }
     requires old_small { Within (widened w) (2 ^ 28) }
     requires torque_small { Within torque (2 ^ 92) }

@@ -1,6 +1,7 @@
 //! One clump's step as a whole: its body after the step, or the limit that it passes.
 
 ghost use Rattle.std.specs.Prelude.{◌≡◌, ◌≢◌, ◌<◌, ◌^◌, IfOk, IfErr, Some, length, slice_get};
+ghost use Rattle.dem_num.specs.Rotations.{EntriesWithin, matrix_of};
 ghost use Rattle.dem_num.specs.Vectors.{Within};
 ghost use Rattle.dem_model.specs.Advance.{
   velocity_after,
@@ -13,11 +14,12 @@ ghost use Rattle.dem_model.specs.Sound.{IsSound, IsTemplate, IsBody, IsBodyOf};
 ghost use Rattle.dem_model.specs.Step.{clump_at};
 ghost use Rattle.dem_force.specs.Placed.{IsPlaced};
 
-use crate::advancing::body::{body_torque, spin, velocity};
+use crate::advancing::body::{next_spin, velocity};
 use crate::advancing::limits::within_limits;
 use dem_model::{Body, Clump, EndKind, Scene, Template};
-use dem_num::Wide3;
+use dem_num::{Rows, Wide3};
 use dem_shape::Shapes;
+use dem_turn::matrix;
 
 /// The body of a clump after a step under the sums of its forces and of its torques in world axes, or the first limit
 /// that it passes: speed, spin, domain. No step passes the fourth, the swing limit.
@@ -36,9 +38,31 @@ pub fn advance(
     ensures sound { IfOk result (IsBodyOf shapes.now (clump_at shapes.now clump)) }
     ensures unswung { IfErr result (λ e. e ≢ EndKind.Swing) }
 {
+    advance_by(shapes, clump, &matrix(body.q), body, force, torque)
+}
+
+/// The same, from the rows of the body's matrix.
+pub fn advance_by(
+    shapes: &Shapes,
+    clump: u32,
+    rows: &Rows,
+    body: &Body,
+    force: Wide3,
+    torque: Wide3,
+) -> Result<Body, EndKind>
+    requires clump { clump < length shapes.now.clumps }
+    requires rows { rows.now ≡ matrix_of body.now.q }
+    requires entries { EntriesWithin rows.now (2 ^ 30) }
+    requires body { IsBodyOf shapes.now (clump_at shapes.now clump) body.now }
+    requires force { Within force (2 ^ 84) }
+    requires torque { Within torque (2 ^ 114) }
+    ensures value { result ≡ advance_of shapes.now (clump_at shapes.now clump).t body.now (record { force = force; torque = torque }) }
+    ensures sound { IfOk result (IsBodyOf shapes.now (clump_at shapes.now clump)) }
+    ensures unswung { IfErr result (λ e. e ≢ EndKind.Swing) }
+{
     let scene = shapes.scene();
     let t = template_number(scene, clump);
-    advance_as(scene, template_at(scene, t), body, force, torque)
+    advance_as(scene, template_at(scene, t), rows, body, force, torque)
 }
 
 /// The number of a clump's template.
@@ -72,12 +96,15 @@ fn template_at(scene: &Scene, t: u32) -> &Template
 fn advance_as(
     scene: &Scene,
     template: &Template,
+    rows: &Rows,
     body: &Body,
     force: Wide3,
     torque: Wide3,
 ) -> Result<Body, EndKind>
     requires scene { IsSound scene.now }
     requires template { IsTemplate (length scene.now.materials) template.now }
+    requires rows { rows.now ≡ matrix_of body.now.q }
+    requires entries { EntriesWithin rows.now (2 ^ 30) }
     requires body { IsBody scene.now body.now }
     requires force { Within force (2 ^ 84) }
     ensures value { result ≡ limited scene.now template.now.balls body.now (velocity_after scene.now.gravity template.now.mass body.now.v force) (spin_after template.now.moments body.now.w (body_torque_of body.now torque)) }
@@ -85,6 +112,6 @@ fn advance_as(
     ensures unswung { IfErr result (λ e. e ≢ EndKind.Swing) }
 {
     let v = velocity(scene.gravity, template.mass, body.v, force);
-    let w = spin(template.moments, body.w, body_torque(body, torque));
+    let w = next_spin(template.moments, body, rows, torque);
     within_limits(scene, template.balls.as_slice(), body, v, w)
 }

@@ -1,7 +1,7 @@
 //! One contact: from the two sides and how they touch to the force, the torques and the new displacement.
 
 ghost use Rattle.std.specs.Prelude.{◌≡◌, ◌^◌, ◌≤◌};
-ghost use Rattle.dem_num.specs.Vectors.{widened, Within};
+ghost use Rattle.dem_num.specs.Vectors.{widened, no_vector, Within};
 ghost use Rattle.dem_model.specs.Law.{push_with, pushed_of, contact_of};
 ghost use Rattle.dem_model.specs.declared.limits.TheConstants.{MAX_DISPLACEMENT};
 ghost use Rattle.dem_model.specs.Ranges.{IsLaw, IsBounded, IsFirst, IsSecond, IsTouch, IsSmall};
@@ -10,9 +10,10 @@ use crate::pushing::mixing::{effective_mass, effective_radius};
 use crate::pushing::motion::{contact_radius, depth, motion_between};
 use crate::pushing::normal::normal_force;
 use crate::pushing::push::{force_on_first, rubbing, torque_on_first, torque_on_second};
-use crate::pushing::sliding::{carried, friction_bound, gripped, trial};
+use crate::pushing::sliding::{carried, friction_bound, gripped, held_where, trial};
 use dem_model::{Law, Push, Side, Touch};
-use dem_num::Vec3;
+use dem_num::{Vec3, WIDE_ZERO, ZERO};
+use dem_turn::is_zero;
 
 /// What a contact does: the force on `a` (`b` feels the opposite), the torques on both in world axes, and the new
 /// displacement. `a` is the side that the normal pushes along it; `h0` is the stored displacement, zero where none is.
@@ -51,8 +52,56 @@ fn pushed(law: &Law, a: &Side, b: &Side, n: Vec3, delta: u64, h0: Vec3) -> Push
 }
 
 /// What a contact does, once the normal force, the displacement and the trial of the tangential force are known.
-#[tactic(auto, unfolding(dem_model::specs::Law::push_with, dem_model::specs::Law::torque_a_of, dem_model::specs::Law::torque_b_of))]
 fn push_at(
+    law: &Law,
+    a: &Side,
+    b: &Side,
+    n: Vec3,
+    delta: u64,
+    normal: u64,
+    h: Vec3,
+    trial: Vec3,
+) -> Push
+    requires law { IsLaw law.now }
+    requires first { IsBounded a.now }
+    requires second { IsBounded b.now }
+    requires direction { Within (widened n) (2 ^ 30) }
+    requires normal_small { normal ≤ 2 ^ 62 }
+    requires held { Within (widened h) MAX_DISPLACEMENT }
+    requires trial_small { Within (widened trial) (2 ^ 62) }
+    ensures value { result ≡ push_with law.now a.now b.now n delta normal h (widened trial) }
+    ensures size { IsSmall result }
+{
+    if is_zero(trial) {
+        undragged(law, a, b, n, delta, normal, h)
+    } else {
+        dragged(law, a, b, n, delta, normal, h, trial)
+    }
+}
+
+/// What a contact does without a tangential force. The overlap stands here for what is promised.
+fn undragged(law: &Law, a: &Side, b: &Side, n: Vec3, delta: u64, normal: u64, h: Vec3) -> Push
+    requires first { IsBounded a.now }
+    requires second { IsBounded b.now }
+    requires direction { Within (widened n) (2 ^ 30) }
+    requires normal_small { normal ≤ 2 ^ 62 }
+    requires held { Within (widened h) MAX_DISPLACEMENT }
+    ensures value { result ≡ push_with law.now a.now b.now n delta normal h no_vector }
+    ensures size { IsSmall result }
+{
+    let _overlap = delta;
+    let force = force_on_first(n, normal, ZERO);
+    Push {
+        force,
+        torque_a: torque_on_first(a, force, WIDE_ZERO),
+        torque_b: torque_on_second(b, force, WIDE_ZERO),
+        h: held_where(law.kt, h),
+    }
+}
+
+/// What a contact does, from the trial of the tangential force.
+#[tactic(auto, unfolding(dem_model::specs::Law::push_with, dem_model::specs::Law::torque_a_of, dem_model::specs::Law::torque_b_of))]
+fn dragged(
     law: &Law,
     a: &Side,
     b: &Side,

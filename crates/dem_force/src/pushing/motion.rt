@@ -18,8 +18,10 @@ ghost use Rattle.dem_model.specs.Ranges.{IsBounded};
 
 use dem_model::Side;
 use dem_num::{
-    Vec3, add3_short, dot, mul, mul_short, narrow, root, sh, sh_short, sub_short, sub3_short, widen,
+    Vec3, ZERO, add3_short, dot, mul, mul_short, narrow, root, sh, sh_short, sub_short, sub3_short,
+    widen,
 };
+use dem_turn::is_zero;
 
 /// The radius of the contact's circle, in u, from the effective radius and the overlap.
 #[tactic(auto, unfolding(dem_model::specs::Law::contact_radius_of))]
@@ -121,8 +123,22 @@ pub fn branch_b(b: &Side, n: Vec3, delta: u64) -> Vec3
     add3_short(b.lever, offset_along(depth(b.r, delta), n))
 }
 
-/// The velocity that a spin gives to the end of a branch.
-pub fn swept(spin: Vec3, branch: Vec3) -> Vec3
+/// The velocity that a spin gives to the end of a branch: none without a spin.
+fn swept(spin: Vec3, branch: Vec3) -> Vec3
+    requires spin_small { Within (widened spin) (2 ^ 30) }
+    requires branch_small { Within (widened branch) (2 ^ 29) }
+    ensures value { widened result ≡ shifted_each (cross_of (widened spin) (widened branch)) 14 }
+    ensures size { Within (widened result) (2 ^ 46) }
+{
+    if is_zero(spin) {
+        ZERO
+    } else {
+        swept_by(spin, branch)
+    }
+}
+
+/// The velocity that a spin gives to the end of a branch, component by component.
+fn swept_by(spin: Vec3, branch: Vec3) -> Vec3
     requires spin_small { Within (widened spin) (2 ^ 30) }
     requires branch_small { Within (widened branch) (2 ^ 29) }
     ensures value { widened result ≡ shifted_each (cross_of (widened spin) (widened branch)) 14 }
@@ -217,9 +233,23 @@ fn wide_part(n: Vec3, u: Vec3) -> i128
     sh(dot(n, widen(u)), 30)
 }
 
-/// The vector less its part along the normal.
-#[tactic(auto, unfolding(dem_model::specs::Law::across_normal))]
+/// The vector less its part along the normal: none where it is none.
 pub fn part_across(n: Vec3, u: Vec3) -> Vec3
+    requires normal { Within (widened n) (2 ^ 30) }
+    requires small { Within (widened u) (2 ^ 48) }
+    ensures value { widened result ≡ across_normal n (widened u) }
+    ensures size { Within (widened result) (2 ^ 51) }
+{
+    if is_zero(u) {
+        ZERO
+    } else {
+        without_normal_part(n, u)
+    }
+}
+
+/// The vector less its part along the normal, which is computed.
+#[tactic(auto, unfolding(dem_model::specs::Law::across_normal))]
+fn without_normal_part(n: Vec3, u: Vec3) -> Vec3
     requires normal { Within (widened n) (2 ^ 30) }
     requires small { Within (widened u) (2 ^ 48) }
     ensures value { widened result ≡ across_normal n (widened u) }

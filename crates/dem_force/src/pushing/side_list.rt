@@ -5,16 +5,17 @@ ghost use Rattle.dem_num.specs.Vectors.{widened, Within};
 ghost use Rattle.dem_model.specs.Motion.{AreSound, IsPair};
 ghost use Rattle.dem_model.specs.Pairs.{sphere_count};
 ghost use Rattle.dem_model.specs.declared.limits.TheConstants.{MAX_DISPLACEMENT};
-ghost use Rattle.dem_model.specs.Ranges.{IsTouch, IsSmall, wall_side_of};
-ghost use Rattle.dem_model.specs.Step.{push_of};
+ghost use Rattle.dem_model.specs.Ranges.{IsTouch, IsSecond, IsSmall, wall_side_of};
+ghost use Rattle.dem_model.specs.Step.{push_of, second_side_of};
 ghost use Rattle.dem_force.specs.Sides.{AreSides};
+ghost use Rattle.dem_shape.specs.Matrices.{AreMatrices};
 
 use crate::pushing::law::contact;
 use crate::pushing::mixing::wall_side;
-use crate::pushing::sides::{law_between, posed_side};
+use crate::pushing::sides::{law_between, side_by};
 use dem_model::{Body, OutOfMemory, Pair, Push, Side, Touch};
 use dem_num::Vec3;
-use dem_shape::{Pose, Shapes};
+use dem_shape::{Matrices, Shapes};
 use std::alloc::Global;
 use std::marker::Model;
 
@@ -47,17 +48,15 @@ impl Sides {
         Ok(Sides { items })
     }
 
-    /// Sets every side to what the bodies make it.
-    pub fn fill(&mut self, shapes: &Shapes, bodies: &[Body])
+    /// Sets every side to what the bodies make it, of which these are the matrices.
+    pub fn fill(&mut self, shapes: &Shapes, bodies: &[Body], matrices: &Matrices)
         requires made { length self.old ≡ sphere_count shapes.now }
         requires sound { AreSound shapes.now bodies.now }
+        requires matrices { AreMatrices shapes.now bodies.now matrices.now }
         ensures { AreSides shapes.now bodies.now self.new }
     {
-        let _scene = shapes.scene();
-        let mut pose = Pose::new(shapes, bodies, 0);
         for s in 0..shapes.spheres() {
-            pose = pose.for_sphere(shapes, bodies, s);
-            self.items[s as usize] = posed_side(shapes, bodies, &pose, s);
+            self.items[s as usize] = side_by(shapes, bodies, matrices, s);
         }
     }
 
@@ -72,7 +71,7 @@ impl Sides {
 
 /// What a touching pair does, from sides that were made from these bodies, with the displacement that is stored for it.
 /// The bodies aren't looked at again: they stand here for what is promised.
-#[tactic(auto, unfolding(dem_model::specs::Step::push_of, dem_model::specs::Step::second_side_of))]
+#[tactic(auto, unfolding(dem_model::specs::Step::push_of))]
 pub fn push_from(
     shapes: &Shapes,
     bodies: &[Body],
@@ -88,12 +87,33 @@ pub fn push_from(
     ensures value { result ≡ push_of shapes.now bodies.now pair touch h }
     ensures size { IsSmall result }
 {
-    let _made_from = bodies;
     let law = law_between(shapes, pair);
     let first = sides.get(pair.a);
+    let wall = wall_side();
+    let second = second_of(shapes, bodies, sides, &wall, pair);
+    contact(&law, first, second, touch, h)
+}
+
+/// The second side of a pair: that of its sphere, or this one, which is a wall's.
+#[tactic(auto, unfolding(dem_model::specs::Step::second_side_of))]
+fn second_of<'a>(
+    shapes: &Shapes,
+    bodies: &[Body],
+    sides: &'a Sides,
+    wall: &'a Side,
+    pair: Pair,
+) -> &'a Side
+    requires pair { IsPair shapes.now pair }
+    requires sides { AreSides shapes.now bodies.now sides.now }
+    requires wall { wall.now ≡ wall_side_of }
+    requires second { IsSecond wall.now }
+    ensures value { result.now ≡ second_side_of shapes.now bodies.now pair }
+    ensures second { IsSecond result.now }
+{
+    let _made_from = bodies;
     if pair.b < shapes.spheres() {
-        contact(&law, first, sides.get(pair.b), touch, h)
+        sides.get(pair.b)
     } else {
-        contact(&law, first, &wall_side(), touch, h)
+        wall
     }
 }

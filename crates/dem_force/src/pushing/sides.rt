@@ -5,7 +5,7 @@ ghost use Rattle.dem_num.specs.Rotations.{matrix_of, turned_by, EntriesWithin};
 ghost use Rattle.dem_num.specs.Vectors.{widened, Within};
 ghost use Rattle.dem_model.specs.Advance.{mass_of};
 ghost use Rattle.dem_model.specs.Motion.{AreSound, IsPair};
-ghost use Rattle.dem_model.specs.Pairs.{sphere_count, sphere_at};
+ghost use Rattle.dem_model.specs.Pairs.{sphere_count};
 ghost use Rattle.dem_model.specs.Ranges.{IsFirst, IsLaw};
 ghost use Rattle.dem_model.specs.Sound.{IsBodyOf, IsMaterial, IsFrom};
 ghost use Rattle.dem_model.specs.Step.{
@@ -17,13 +17,13 @@ ghost use Rattle.dem_model.specs.Step.{
   side_at,
 };
 ghost use Rattle.dem_model.specs.declared.limits.TheConstants.{MAX_MASS};
-ghost use Rattle.dem_shape.specs.Pose.{IsPose};
+ghost use Rattle.dem_shape.specs.Matrices.{AreMatrices};
 
 use crate::pushing::mixing::mix;
 use crate::touching::pairs::wall_of;
 use dem_model::{Body, Law, Material, Pair, Side};
 use dem_num::{Rows, Vec3, ZERO};
-use dem_shape::{Pose, Shapes};
+use dem_shape::{Matrices, Shapes};
 use dem_turn::{is_zero, matrix, turned, turned_spin};
 
 /// The side of a sphere: the velocity and the world spin of its clump, its turned offset, its radius, its clump's mass.
@@ -116,15 +116,16 @@ fn second_material(shapes: &Shapes, pair: Pair) -> Material
     }
 }
 
-/// The side of a sphere, where the bodies are these and the pose is that of the sphere's clump.
+/// The side of a sphere, where these are the bodies and their matrices.
 #[tactic(auto, unfolding(dem_model::specs::Step::side_at))]
-pub fn posed_side(shapes: &Shapes, bodies: &[Body], pose: &Pose, sphere: u32) -> Side
+pub fn side_by(shapes: &Shapes, bodies: &[Body], matrices: &Matrices, sphere: u32) -> Side
     requires sphere { sphere < sphere_count shapes.now }
     requires sound { AreSound shapes.now bodies.now }
-    requires pose { IsPose shapes.now bodies.now (sphere_at shapes.now sphere).clump pose.now }
+    requires matrices { AreMatrices shapes.now bodies.now matrices.now }
     ensures value { result ≡ side_at shapes.now bodies.now sphere }
     ensures ranges { IsFirst result }
 {
-    let body = &bodies[shapes.clump_of(sphere) as usize];
-    side_with(shapes, body, &pose.rows, sphere)
+    let clump = shapes.clump_of(sphere);
+    let body = &bodies[clump as usize];
+    side_with(shapes, body, matrices.get(clump), sphere)
 }

@@ -8,12 +8,13 @@ ghost use Rattle.std.specs.Prelude.{
   ◌≤◌,
   ◌*ℤ◌,
   unsigned_abs,
+  true,
   ◌==◌,
   nat_le,
   if◌then◌else◌,
 };
 ghost use Rattle.dem_num.specs.Numbers.{AtMost, quotient, clamped, shifted, root_of, square_of};
-ghost use Rattle.dem_num.specs.Vectors.{widened, narrowed, no_vector, Within, norm2_of, quotients, scaled, clamped_each};
+ghost use Rattle.dem_num.specs.Vectors.{widened, narrowed, no_vector, is_zero, Within, norm2_of, quotients, scaled, clamped_each};
 ghost use Rattle.dem_model.specs.Law.{
   carried_of,
   trial_of,
@@ -31,6 +32,7 @@ use crate::pushing::narrow::{
 use crate::pushing::normal::{damping, damping_factor, damping_root};
 use dem_model::{Law, MAX_DISPLACEMENT, MAX_FORCE};
 use dem_num::{Vec3, ZERO, add3_short, cl, mul, narrow, negated, root, sh, sub, tdiv};
+use dem_turn::is_zero;
 
 /// The least component of a displacement.
 const LEAST_DISPLACEMENT: i64 = -1_099_511_627_776;
@@ -79,9 +81,34 @@ fn bounded_part(h: i64) -> i64
     LEAST_DISPLACEMENT.max(h.min(MAX_DISPLACEMENT as i64))
 }
 
+/// The tangential force before friction bounds it: none where nothing has moved across the normal.
+pub fn trial(law: &Law, c: u64, mass: u64, h: Vec3, slip: Vec3) -> Vec3
+    requires law { IsLaw law.now }
+    requires radius { c ≤ 2 ^ 27 }
+    requires mass_small { mass ≤ 2 ^ 40 }
+    requires held_small { Within (widened h) MAX_DISPLACEMENT }
+    requires slip_small { Within (widened slip) (2 ^ 51) }
+    ensures value { widened result ≡ trial_of law.now c mass h (widened slip) }
+    ensures size { Within (widened result) (2 ^ 62) }
+{
+    if are_zero(h, slip) {
+        ZERO
+    } else {
+        trial_force(law, c, mass, h, slip)
+    }
+}
+
+/// Whether a displacement and a slip are both zero.
+fn are_zero(h: Vec3, slip: Vec3) -> bool
+    ensures displacement { result ≡ true → is_zero (widened h) ≡ true }
+    ensures slip { result ≡ true → is_zero (widened slip) ≡ true }
+{
+    is_zero(h) && is_zero(slip)
+}
+
 /// The tangential force before friction bounds it: elastic and damped.
 #[tactic(auto, unfolding(dem_model::specs::Law::trial_of, dem_model::specs::Law::trial_component, dem_model::specs::Law::damping_of, crate::specs::Narrow::pull_of))]
-pub fn trial(law: &Law, c: u64, mass: u64, h: Vec3, slip: Vec3) -> Vec3
+fn trial_force(law: &Law, c: u64, mass: u64, h: Vec3, slip: Vec3) -> Vec3
     requires law { IsLaw law.now }
     requires radius { c ≤ 2 ^ 27 }
     requires mass_small { mass ≤ 2 ^ 40 }
@@ -286,7 +313,7 @@ fn slipping(kt: u32, bound: u64, trial: Vec3, h: Vec3) -> Grip
 }
 
 /// The displacement, where there is a tangential stiffness to hold it.
-fn held_where(kt: u32, h: Vec3) -> Vec3
+pub fn held_where(kt: u32, h: Vec3) -> Vec3
     requires held_small { Within (widened h) MAX_DISPLACEMENT }
     ensures value { result ≡ (if kt == 0 then narrowed no_vector else h) }
     ensures size { Within (widened result) (2 ^ 40) }

@@ -5,15 +5,17 @@ ghost use Rattle.dem_model.specs.Centers.{centers_of};
 ghost use Rattle.dem_model.specs.Motion.{AreSound};
 ghost use Rattle.dem_force.specs.Sides.{AreSides};
 ghost use Rattle.dem_force.specs.Places.{HasPlaces};
+ghost use Rattle.dem_shape.specs.Matrices.{AreMatrices};
 
 use crate::pushing::side_list::Sides;
 use dem_model::{Body, OutOfMemory};
-use dem_shape::{Centers, Shapes};
+use dem_shape::{Centers, Matrices, Shapes};
 use std::alloc::Global;
 
-/// A center and a side per sphere.
+/// A matrix per clump, and a center and a side per sphere.
 #[derive(Drop)]
 pub struct Spheres {
+    pub matrices: Matrices,
     pub centers: Centers,
     pub sides: Sides,
 }
@@ -24,6 +26,7 @@ impl Spheres {
         ensures { IfOk result (HasPlaces shapes.now) }
     {
         Ok(Spheres {
+            matrices: Matrices::new(alloc, shapes)?,
             centers: Centers::new(alloc, shapes)?,
             sides: Sides::new(alloc, shapes)?,
         })
@@ -33,10 +36,12 @@ impl Spheres {
     pub fn fill(&mut self, shapes: &Shapes, bodies: &[Body])
         requires made { HasPlaces shapes.now self.old }
         requires sound { AreSound shapes.now bodies.now }
+        ensures matrices { AreMatrices shapes.now bodies.now self.new.matrices }
         ensures centers { self.new.centers ≡ centers_of shapes.now bodies.now }
         ensures sides { AreSides shapes.now bodies.now self.new.sides }
     {
-        self.centers.fill(shapes, bodies);
-        self.sides.fill(shapes, bodies);
+        self.matrices.fill(shapes, bodies);
+        self.centers.fill_by(shapes, bodies, &self.matrices);
+        self.sides.fill(shapes, bodies, &self.matrices);
     }
 }

@@ -1,4 +1,4 @@
-use Rattle.std.proofs.Common.{ℕ, ◌≡◌, ◌-◌, ◌+◌, ◌++◌, ◌∷◌, [], ◌∙◌, ap, arith, refl, rules, map}
+use Rattle.std.proofs.Common.{◌≡◌, ◌++◌, ◌∷◌, [], ◌∙◌, ap, arith, rules, map}
 use Rattle.std.specs.List.{range_with_len}
 use Rattle.dem_bins.specs.Blocks.{block_of, blocks_of}
 use Rattle.dem_bins.specs.declared.blocks.Block.{Block}

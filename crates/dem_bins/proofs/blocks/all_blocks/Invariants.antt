@@ -1,4 +1,4 @@
-use Rattle.std.proofs.Common.{◌≡◌, ℕ, map}
+use Rattle.std.proofs.Common.{◌≡◌, map}
 use Rattle.std.specs.List.{range_with_len}
 use Rattle.dem_bins.specs.Blocks.{block_of}
 use Rattle.dem_bins.proofs.blocks.all_blocks.Given as goal

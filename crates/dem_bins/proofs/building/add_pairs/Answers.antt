@@ -1,11 +1,11 @@
-use Rattle.std.proofs.Common.{ℕ, ◌≡◌, ◌+◌, ◌*◌, ◌<◌, ◌≤◌, ◌++◌, List, [], length, ◌∙◌, sym, ap, ap₂, arith, subst}
+use Rattle.std.proofs.Common.{ℕ, ◌≡◌, ◌*◌, ◌≤◌, ◌++◌, List, length, ◌∙◌, sym, ap, ap₂, arith}
 use Rattle.std.proofs.lemmas.List.{length-append}
 use Rattle.std.proofs.lemmas.Nat.{mul-le}
 use Rattle.std.proofs.lemmas.Result.{on_ok_weaker}
 use Rattle.dem_model.specs.Pairs.{sphere_count}
 use Rattle.dem_model.specs.declared.state.Pair.{Pair}
-use Rattle.dem_bins.specs.Walk.{rows_of, rows_visits, walls_found}
-use Rattle.dem_bins.proofs.PlanFacts.{IsPlan, plan-blocks, plan-keys, plan-room, plan-counted, plan-found, plan-read}
+use Rattle.dem_bins.specs.Walk.{rows_of, walls_found}
+use Rattle.dem_bins.proofs.PlanFacts.{IsPlan, plan-blocks, plan-keys, plan-boxes, plan-room, plan-counted, plan-found, plan-read}
 use Rattle.dem_bins.proofs.building.add_pairs.Goals as goal
 
 pub sorted_keys-requires-clause-count : goal.sorted_keys-requires-clause-count
@@ -22,6 +22,13 @@ walk-requires-clause-keys g c =
     plan-read c.args.shapes.now c.args.grid.now c.args.centers.now c.as_slice.result.now c.in_ok-blocks.blocks.items c.as_slice-2.result.now c.in_ok-keys.keys.items c.as_slice-3.result.now
     c.scene-scene.ensures.sound c.requires.grid c.requires.centers c.as_slice.ensures.value c.in_ok-blocks.ensures c.as_slice-2.ensures.value c.as_slice-3.ensures.value c.in_ok-keys.ensures.moved c.in_ok-keys.ensures.sorted in
     plan-keys c.args.shapes.now c.args.grid.now c.args.centers.now c.as_slice-2.result.now c.as_slice-3.result.now plan
+
+pub walk-requires-clause-boxes : goal.walk-requires-clause-boxes
+walk-requires-clause-boxes g c =
+    let plan : IsPlan c.args.shapes.now c.args.grid.now c.args.centers.now c.as_slice-2.result.now c.as_slice-3.result.now =
+    plan-read c.args.shapes.now c.args.grid.now c.args.centers.now c.as_slice.result.now c.in_ok-blocks.blocks.items c.as_slice-2.result.now c.in_ok-keys.keys.items c.as_slice-3.result.now
+    c.scene-scene.ensures.sound c.requires.grid c.requires.centers c.as_slice.ensures.value c.in_ok-blocks.ensures c.as_slice-2.ensures.value c.as_slice-3.ensures.value c.in_ok-keys.ensures.moved c.in_ok-keys.ensures.sorted in
+    plan-boxes c.args.shapes.now c.args.grid.now c.drift.result c.args.centers.now c.as_slice-2.result.now c.as_slice-3.result.now plan c.drift.ensures
 
 pub walk-requires-clause-room : goal.walk-requires-clause-room
 walk-requires-clause-room g c =

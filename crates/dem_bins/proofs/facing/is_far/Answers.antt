@@ -2,7 +2,7 @@ use Rattle.std.proofs.Common.{◌≡◌, ℕ, ◌+◌, ◌*◌, ◌-◌, ap, ap�
 use Rattle.std.proofs.lemmas.Bool.{not-true}
 use Rattle.std.proofs.lemmas.Int.{to_z-of_z}
 use Rattle.std.specs.Prelude.{int_lt, not, pos}
-use Rattle.dem_model.specs.Near.{reach_of, drift_of}
+use Rattle.dem_model.specs.Near.{drift_of}
 use Rattle.dem_model.specs.Pairs.{sphere_at}
 use Rattle.dem_model.specs.declared.shape.Ball.{Ball}
 use Rattle.dem_num.specs.declared.vector.Vec3.{Vec3}

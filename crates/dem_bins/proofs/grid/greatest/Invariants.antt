@@ -1,4 +1,4 @@
-use Rattle.std.proofs.Common.{◌≡◌, ℕ, ◌^◌, ◌≤◌, map}
+use Rattle.std.proofs.Common.{◌≡◌, ◌^◌, ◌≤◌, map}
 use Rattle.std.specs.Prelude.{max}
 use Rattle.std.specs.List.{fold, range_with_len}
 use Rattle.dem_model.specs.Near.{reach_of}

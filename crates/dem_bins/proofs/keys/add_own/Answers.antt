@@ -1,4 +1,4 @@
-use Rattle.std.proofs.Common.{ℕ, ◌≡◌, ◌-◌, ◌+◌, ◌++◌, ◌∙◌, arith, refl, rules}
+use Rattle.std.proofs.Common.{◌-◌, ◌+◌, arith, refl}
 use Rattle.std.specs.List.{flat_map}
 use Rattle.dem_bins.specs.Keys.{row_keys, own_keys, cells_in}
 use Rattle.dem_bins.proofs.WalkFacts.{flat-step, range-none, range-end}

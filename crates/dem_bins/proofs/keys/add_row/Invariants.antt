@@ -1,4 +1,4 @@
-use Rattle.std.proofs.Common.{◌≡◌, ℕ, ◌-◌, ◌++◌, map}
+use Rattle.std.proofs.Common.{◌≡◌, ◌-◌, ◌++◌, map}
 use Rattle.std.specs.List.{range_with_len}
 use Rattle.dem_bins.specs.Keys.{column_of, key_of}
 use Rattle.dem_bins.proofs.keys.add_row.Given as goal

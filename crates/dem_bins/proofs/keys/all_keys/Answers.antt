@@ -1,4 +1,4 @@
-use Rattle.std.proofs.Common.{ℕ, ◌≡◌, ◌-◌, ◌+◌, ◌++◌, ◌∙◌, ap, arith, refl, rules}
+use Rattle.std.proofs.Common.{◌++◌, ◌∙◌, ap, arith, refl}
 use Rattle.dem_bins.specs.Blocks.{block_at}
 use Rattle.dem_bins.specs.Keys.{own_keys}
 use Rattle.dem_bins.specs.declared.blocks.Block.{Block}

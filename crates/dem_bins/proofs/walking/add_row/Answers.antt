@@ -1,6 +1,5 @@
-use Rattle.std.proofs.Common.{ℕ, ◌≡◌, ◌+◌, ◌<◌, ◌≤◌, ◌^◌, ◌++◌, List, length, get_or, take, ◌∙◌, sym, ap, arith, refl, subst}
+use Rattle.std.proofs.Common.{◌+◌, ◌^◌, ◌++◌, List, get_or, ◌∙◌, sym, ap, arith, refl}
 use Rattle.std.specs.Prelude.{if◌then◌else◌}
-use Rattle.std.specs.List.{flat_map, sum_by}
 use Rattle.std.proofs.lemmas.List.{append-nil}
 use Rattle.std.proofs.lemmas.List.Sums.{sum_by_more, sum_by-take-le}
 use Rattle.dem_model.specs.declared.state.Pair.{Pair}

@@ -1,4 +1,4 @@
-use Rattle.std.proofs.Common.{◌≡◌, ℕ, ◌+◌, arith, ap₂, ◌∙◌}
+use Rattle.std.proofs.Common.{ℕ, ◌+◌, arith, ap₂, ◌∙◌}
 use Rattle.dem_bins.specs.Keys.{key_of, sphere_in}
 use Rattle.dem_bins.specs.Walk.{end_of}
 use Rattle.dem_bins.specs.declared.blocks.Block.{Block}

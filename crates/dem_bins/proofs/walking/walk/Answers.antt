@@ -1,5 +1,4 @@
-use Rattle.std.proofs.Common.{ℕ, ◌≡◌, ◌+◌, ◌<◌, ◌≤◌, ◌^◌, ◌++◌, List, length, take, ◌∙◌, sym, ap, arith, refl}
-use Rattle.std.specs.List.{flat_map, sum_by}
+use Rattle.std.proofs.Common.{◌+◌, ◌^◌, ◌++◌, List, ◌∙◌, ap, arith}
 use Rattle.std.proofs.lemmas.List.Sums.{sum_by_more, sum_by-take-le}
 use Rattle.dem_model.specs.declared.state.Pair.{Pair}
 use Rattle.dem_bins.specs.Walk.{row_of, row_visits, rows_of, rows_visits}

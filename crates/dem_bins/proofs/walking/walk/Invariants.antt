@@ -1,4 +1,4 @@
-use Rattle.std.proofs.Common.{◌≡◌, ℕ, ◌+◌, ◌≤◌, ◌++◌, take}
+use Rattle.std.proofs.Common.{◌≡◌, ◌+◌, ◌≤◌, ◌++◌, take}
 use Rattle.std.specs.List.{flat_map, sum_by}
 use Rattle.dem_bins.specs.Walk.{row_of, row_visits}
 use Rattle.dem_bins.proofs.walking.walk.Given as goal

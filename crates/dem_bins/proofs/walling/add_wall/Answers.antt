@@ -1,7 +1,6 @@
-use Rattle.std.proofs.Common.{ℕ, ◌≡◌, ◌+◌, ◌<◌, ◌≤◌, ◌^◌, ◌++◌, List, length, ◌∙◌, sym, ap, arith, refl, subst, add-one}
+use Rattle.std.proofs.Common.{◌≡◌, ◌++◌, ◌∙◌, ap, arith}
 use Rattle.std.specs.List.{flat_map, range_with_len}
 use Rattle.dem_model.specs.Pairs.{sphere_count, pair_of}
-use Rattle.dem_model.specs.declared.state.Pair.{Pair}
 use Rattle.dem_margin.specs.NearList.{pair_if_near}
 use Rattle.dem_bins.specs.Walk.{wall_found}
 use Rattle.dem_bins.proofs.RoomFacts.{pair_if_near-short}

@@ -1,11 +1,10 @@
-use Rattle.std.proofs.Common.{ℕ, ◌≡◌, ◌+◌, ◌*◌, ◌-◌, ◌<◌, ◌≤◌, ◌^◌, ◌++◌, List, length, ◌∙◌, sym, ap, arith, refl}
+use Rattle.std.proofs.Common.{ℕ, ◌≡◌, ◌+◌, ◌*◌, ◌-◌, ◌≤◌, ◌++◌, length, ◌∙◌, sym, ap, arith, refl}
 use Rattle.std.specs.List.{flat_map, range_with_len}
 use Rattle.std.proofs.lemmas.List.{append-nil}
 use Rattle.std.proofs.lemmas.Nat.{mul-le}
-use Rattle.dem_model.specs.Pairs.{sphere_count, limit_of, pair_of}
-use Rattle.dem_margin.specs.NearList.{pair_if_near}
+use Rattle.dem_model.specs.Pairs.{sphere_count, limit_of}
 use Rattle.dem_bins.specs.Walk.{wall_found, walls_found}
-use Rattle.dem_bins.proofs.WalkFacts.{flat-step, flat-short-from, range-none, wall_found-short}
+use Rattle.dem_bins.proofs.WalkFacts.{flat-step, flat-short-from, wall_found-short}
 use Rattle.dem_bins.proofs.walling.add_walls.Goals as goal
 
 pub loop-b-init : goal.loop-b-init

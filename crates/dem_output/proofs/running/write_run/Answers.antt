@@ -1,4 +1,3 @@
-use Rattle.std.proofs.Common.{◌≡◌}
 use Rattle.std.proofs.lemmas.Result.{err_from_is_err_and}
 use Rattle.dem_output.proofs.LoopFacts.{at-first, not-begun, whole-run}
 use Rattle.dem_output.proofs.running.write_run.Goals as goal

@@ -1,4 +1,4 @@
-use Rattle.std.proofs.Common.{ℕ, ◌≡◌, ◌+◌, ◌*◌, ◌/◌, ◌≤◌, ◌∙◌, sym, ap, ap₂, arith}
+use Rattle.std.proofs.Common.{ℕ, ◌≡◌, ◌+◌, ◌*◌, ◌/◌, ◌∙◌, ap, ap₂, arith}
 use Rattle.dem_bins.specs.Bins.{GridValue, greatest_reach, side_of, grid_of, cells_across}
 use Rattle.dem_bins.specs.declared.grid.BinTooSmall.{BinTooSmall}
 use Rattle.dem_bins.proofs.grid.Grid.check.Goals as goal

@@ -1,4 +1,4 @@
-use Rattle.std.proofs.Common.{arith, sym, subst}
+use Rattle.std.proofs.Common.{arith}
 use Rattle.dem_list.proofs.AscendingFacts.{IsAscending-none}
 use Rattle.dem_list.proofs.pair_list.PairList.empty.Goals as goal
 

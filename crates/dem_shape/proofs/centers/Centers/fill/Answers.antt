@@ -1,5 +1,5 @@
 use Rattle.std.proofs.Common.{refl, ap, ◌∙◌, length, arith}
-use Rattle.dem_shape.proofs.FillFacts.{IsFilled-more, IsFilled-all}
+use Rattle.dem_shape.proofs.FillFacts.{IsFilled-more, AreFilled-all}
 use Rattle.dem_shape.proofs.PoseFacts.{pose_own}
 use Rattle.dem_shape.proofs.centers.Centers.fill.Goals as goal
 use Rattle.dem_shape.proofs.centers.Centers.fill.Goals.{then-is_zero, else-is_zero}
@@ -8,7 +8,7 @@ pub new-pose-requires-clause-there : goal.new-pose-requires-clause-there
 new-pose-requires-clause-there c = omega (arith, c.scene-scene.ensures.sound.clump_count.low_le)
 
 pub loop-s-init : goal.loop-s-init
-loop-s-init c = record { size = ap length c.self.view_is ∙ c.requires.made; done = refl; pose_is = pose_own _ _ _ _ c.new-pose.ensures }
+loop-s-init c = record { filled = record { size = ap length c.self.view_is ∙ c.requires.made; done = refl }; pose_is = pose_own _ _ _ _ c.new-pose.ensures }
 
 pub loop-s-preserved : goal.loop-s-preserved
 loop-s-preserved c = elim c.if-is_zero.branch [
@@ -17,4 +17,4 @@ loop-s-preserved c = elim c.if-is_zero.branch [
 ]
 
 pub returns : goal.returns
-returns c = IsFilled-all _ _ _ _ _ c.loop-s.invariant (omega arith)
+returns c = AreFilled-all _ _ _ _ c.loop-s.invariant.filled (omega arith)

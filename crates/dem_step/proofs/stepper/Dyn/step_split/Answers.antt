@@ -11,6 +11,7 @@ use Rattle.dem_model.specs.declared.law.Load.{Load}
 use Rattle.dem_model.specs.declared.state.Body.{Body}
 use Rattle.dem_model.specs.declared.state.State.{State}
 use Rattle.dem_model.proofs.SoundFacts.{centers_of-inside}
+use Rattle.dem_shape.specs.Matrices.{AreMatrices}
 use Rattle.dem_force.specs.Loads.{AreLoads}
 use Rattle.dem_list.specs.Ascending.{Pairs}
 use Rattle.dem_hist.specs.Carrying.{HeldByPlace}
@@ -93,6 +94,10 @@ pub overflow_add-self : goal.overflow_add-self
 overflow_add-self g c =
     let lt : (state_at c.self.inside.shapes.now c.self.inside.step).step < c.self.inside.shapes.now.steps = subst (λ (r : Stepper). r.state.step < r.scene.steps) (sym c.self.view_is) c.requires.goes_on in
     omega (arith, lt, plain-number c.self.inside.shapes.now c.self.inside.step (state_at c.self.inside.shapes.now c.self.inside.step) c.self.invariant.0.plain, c.self.invariant.0.scene.steps)
+
+pub advance_all-requires-clause-matrices : goal.advance_all-requires-clause-matrices
+advance_all-requires-clause-matrices g c =
+    subst (λ (bs : List Body). AreMatrices c.self.inside.shapes.now bs c.make.new.self.spheres.matrices) (sym (c.as_slice-2.ensures ∙ c.make.ensures.bodies_are)) c.make.ensures.matrices_are
 
 pub advance_all-requires-clause-loads : goal.advance_all-requires-clause-loads
 advance_all-requires-clause-loads g c =

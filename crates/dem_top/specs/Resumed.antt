@@ -60,7 +60,7 @@ pub record TakesFrame (s : SceneValue) (st : State) (text : List ℕ) : Type 0 w
   pub unmarked : mark_in frame_mark text ≡ None
   pub short : length (with_frame text st) ≤ MAX_INPUT
 
--- the two come to what follows that frame in the output of the scene, and end as the plain run does
+-- an input of this text and the frame of this state comes to what follows that frame in the output of the scene, and to the status of the plain run
 pub record GoesOn (s : SceneValue) (st : State) (text : List ℕ) : Type 0 where
   pub before : List ℕ
   pub rest : List ℕ

@@ -1,7 +1,7 @@
 -- The checks of a state pass exactly where it is fit.
-use Rattle.std.proofs.Common.{◌≡◌, ◌∙◌, ℕ, zero, suc, ◌+◌, ◌*◌, ◌^◌, ◌<◌, ◌≤◌, Bool, true, false, List, [], ◌∷◌, length, get_or, Option, Some, None, Result, Ok, Err, All, IsTrue, if◌then◌else◌, cond, inl, inr, sym, ap, refl, subst, arith, unsigned_abs}
-use Rattle.std.specs.Prelude.{IfOk, not, ◌&&◌, nat_lt, nat_le, find, ltb}
-use Rattle.std.specs.List.{position, position_from, range_with_len, list_all}
+use Rattle.std.proofs.Common.{◌≡◌, ◌∙◌, ℕ, zero, suc, ◌+◌, ◌*◌, ◌^◌, ◌<◌, ◌≤◌, Bool, true, false, List, [], ◌∷◌, length, get_or, Option, Some, None, Ok, Err, All, if◌then◌else◌, cond, inl, inr, sym, ap, refl, subst, arith, unsigned_abs}
+use Rattle.std.specs.Prelude.{IfOk, not, ◌&&◌, nat_lt, nat_le, find}
+use Rattle.std.specs.List.{position_from, range_with_len, list_all}
 use Rattle.std.specs.Option.{option_map_or}
 use Rattle.std.proofs.lemmas.Bool.{cases_Bool, and_parts, leb-true, le-leb, lt-ltb, le-ltb, ltb-true, ltb-false, not-false}
 use Rattle.std.proofs.lemmas.Bool.Decides.{nat_tests}
@@ -17,7 +17,7 @@ use Rattle.dem_num.specs.Rotations.{quat_norm2_of, QuatWithin, IsOrientation}
 use Rattle.dem_num.proofs.QuatSizes.{quat_within, quat_norm2_le}
 use Rattle.dem_model.specs.SceneValue.{SceneValue}
 use Rattle.dem_model.specs.Centers.{body_at, still_body}
-use Rattle.dem_model.specs.Fit.{held_pairs, IsFit}
+use Rattle.dem_model.specs.Fit.{IsFit}
 use Rattle.dem_model.specs.Motion.{AreSound, IsPair}
 use Rattle.dem_model.specs.Pairs.{sphere_count, limit_of, apart}
 use Rattle.dem_model.specs.Position.{in_box}
@@ -35,7 +35,6 @@ use Rattle.dem_model.specs.declared.state.Held.{Held}
 use Rattle.dem_model.specs.declared.state.Pair.{Pair}
 use Rattle.dem_model.specs.declared.state.State.{State}
 use Rattle.dem_save.specs.Loaded.{is_body_of, unsound_in, is_pair, stray_in, checked_of}
-use Rattle.dem_save.specs.declared.fault.SaveFault.{SaveFault}
 use Rattle.dem_save.specs.declared.fault.SaveFault.TheVariants as saves
 use Rattle.dem_frame.proofs.KeptFacts.{IsRead}
 

@@ -1,5 +1,5 @@
 -- Each state of the run from a fit state is fit, and so is each of the plain run.
-use Rattle.std.proofs.Common.{◌≡◌, ◌∙◌, ℕ, zero, suc, ◌+◌, ◌<◌, ◌≤◌, Bool, true, false, List, [], ◌∷◌, map, Option, Some, None, Result, Ok, Err, All, if◌then◌else◌, refl, subst, arith}
+use Rattle.std.proofs.Common.{◌≡◌, ℕ, zero, suc, ◌+◌, ◌<◌, ◌≤◌, Bool, true, false, List, map, Option, Some, None, Result, Ok, Err, All, if◌then◌else◌, refl, subst, arith}
 use Rattle.std.specs.Prelude.{IfOk, IfSome, nat_lt, option_and_then}
 use Rattle.std.specs.List.Sorted.{IsStrictlySortedBy}
 use Rattle.std.specs.Result.{result_ok}
@@ -9,11 +9,11 @@ use Rattle.dem_num.specs.Vectors.{widened, Within}
 use Rattle.dem_model.specs.SceneValue.{SceneValue}
 use Rattle.dem_model.specs.Centers.{centers_of}
 use Rattle.dem_model.specs.Fit.{held_pairs, IsFit}
-use Rattle.dem_model.specs.Motion.{AreSound, IsPair}
+use Rattle.dem_model.specs.Motion.{IsPair}
 use Rattle.dem_model.specs.Pairs.{all_pairs, pair_cmp}
 use Rattle.dem_model.specs.Plain.{state_after, run_after, first_state, plain_at}
 use Rattle.dem_model.specs.Sound.{IsSound}
-use Rattle.dem_model.specs.Step.{Meeting, meetings, loads_of, held_in, advanced_from, state_with, step_with, step_of}
+use Rattle.dem_model.specs.Step.{Meeting, meetings, loads_of, held_in, state_with, step_with, step_of}
 use Rattle.dem_model.specs.declared.limits.TheConstants.{MAX_DISPLACEMENT}
 use Rattle.dem_model.specs.declared.state.Body.{Body}
 use Rattle.dem_model.specs.declared.state.End.{End}

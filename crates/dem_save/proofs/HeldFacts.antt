@@ -1,5 +1,5 @@
 -- What a step holds: pairs that may touch, in their order, and displacements within their range.
-use Rattle.std.proofs.Common.{◌≡◌, ◌∙◌, ℕ, ◌+◌, ◌*◌, ◌<◌, ◌≤◌, pos, Bool, true, false, List, [], ◌∷◌, length, map, get_or, Option, Some, None, All, if◌then◌else◌, cond, sym, ap, refl, subst, arith}
+use Rattle.std.proofs.Common.{◌≡◌, ℕ, ◌*◌, ◌<◌, ◌≤◌, pos, Bool, true, false, List, [], ◌∷◌, length, map, get_or, Option, Some, None, All, if◌then◌else◌, cond, sym, ap, refl, subst, arith}
 use Rattle.std.specs.Prelude.{IfSome, ◌==◌, nat_le, filter}
 use Rattle.std.specs.List.{filter_map, cons_option}
 use Rattle.std.specs.List.Sorted.{IsStrictlySortedBy}
@@ -12,7 +12,7 @@ use Rattle.std.proofs.lemmas.Nat.{mul-le}
 use Rattle.dem_num.specs.declared.vector.Vec3.{Vec3}
 use Rattle.dem_num.specs.declared.vector.Wide3.{Wide3}
 use Rattle.dem_num.specs.Numbers.{root_of}
-use Rattle.dem_num.specs.Vectors.{widened, narrowed, no_vector, sum_of, scaled, quotients, clamped_each, norm2_of, Within}
+use Rattle.dem_num.specs.Vectors.{widened, narrowed, no_vector, sum_of, scaled, quotients, norm2_of, Within}
 use Rattle.dem_num.proofs.VectorSizes.{scaled_within, quotients_within, clamped_within}
 use Rattle.dem_model.specs.SceneValue.{SceneValue}
 use Rattle.dem_model.specs.Centers.{touch_of}

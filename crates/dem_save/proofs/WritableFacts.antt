@@ -1,13 +1,13 @@
 -- A frame can hold each fit state, so that it loads as that state.
-use Rattle.std.proofs.Common.{◌≡◌, ◌∙◌, ℕ, ◌+◌, ◌*◌, ◌^◌, ◌<◌, ◌≤◌, Bool, true, List, [], ◌∷◌, length, get_or, Option, Some, None, Result, Ok, Err, All, sym, ap, refl, subst, arith}
-use Rattle.std.specs.Prelude.{◌&&◌, nat_lt, not, if◌then◌else◌, ◌==◌}
+use Rattle.std.proofs.Common.{◌≡◌, ◌∙◌, ◌^◌, ◌<◌, ◌≤◌, true, List, [], ◌∷◌, length, get_or, Some, None, Ok, All, sym, ap, refl, subst, arith}
+use Rattle.std.specs.Prelude.{nat_lt}
 use Rattle.std.specs.List.Sorted.{IsStrictlySortedBy}
 use Rattle.std.specs.declared.cmp.Ordering.TheVariants.{Less}
 use Rattle.std.proofs.lemmas.Bool.{and_parts, ltb-true}
 use Rattle.std.proofs.lemmas.Bool.Decides.{nat_tests}
 use Rattle.std.proofs.lemmas.List.{get_or_default}
 use Rattle.dem_num.specs.Vectors.{widened, Within}
-use Rattle.dem_num.specs.Rotations.{quat_norm2_of, QuatWithin}
+use Rattle.dem_num.specs.Rotations.{QuatWithin}
 use Rattle.dem_num.proofs.QuatSizes.{quat_within}
 use Rattle.dem_num.proofs.VectorSizes.{within_wider}
 use Rattle.dem_model.specs.SceneValue.{SceneValue}
@@ -15,13 +15,14 @@ use Rattle.dem_model.specs.Centers.{body_at, still_body}
 use Rattle.dem_model.specs.Fit.{held_pairs, IsFit}
 use Rattle.dem_model.specs.Frames.{state_text}
 use Rattle.dem_model.specs.Motion.{IsPair}
-use Rattle.dem_model.specs.Pairs.{sphere_count, limit_of, sphere_at, apart, pair_cmp}
+use Rattle.dem_model.specs.Pairs.{sphere_count, limit_of, apart, pair_cmp}
 use Rattle.dem_model.specs.Sound.{IsBody, IsSound}
 use Rattle.dem_model.specs.declared.state.Body.{Body}
 use Rattle.dem_model.specs.declared.state.Held.{Held}
 use Rattle.dem_model.specs.declared.state.Pair.{Pair}
 use Rattle.dem_model.specs.declared.state.State.{State}
 use Rattle.dem_shape.proofs.PoseFacts.{in_box-small}
+use Rattle.dem_frame.specs.PartialFrames.{frame_of}
 use Rattle.dem_frame.specs.Records.{continues, comes_after}
 use Rattle.dem_frame.specs.ReadBack.{BodyFits, IsOrdered, Ascends, IsWritable}
 use Rattle.dem_frame.proofs.ReadOnFacts.{fits_stored}

@@ -1,6 +1,5 @@
-use Rattle.std.proofs.Common.{◌≡◌, ◌∙◌, List, length, Result, Ok, Err, ap, arith}
+use Rattle.std.proofs.Common.{◌∙◌, length, Ok, Err, ap, arith}
 use Rattle.dem_model.specs.SceneValue.{SceneValue}
-use Rattle.dem_frame.specs.PartialFrames.{frame_of}
 use Rattle.dem_frame.specs.declared.partial.FrameFault.TheVariants as frames
 use Rattle.dem_save.proofs.LoadFacts.{frame-as, frame-kept, load-checked, load-fit, load-fails}
 use Rattle.dem_save.proofs.loading.load.Goals as goal

@@ -10,11 +10,7 @@ use dem_plain::PlainRun;
 use std::alloc::Global;
 
 /// Makes the run from a fit state and writes what follows its frame, each row as it comes: the frames that are due after
-<<<<<<< ours
 /// it, and the end row. Answers how the run ended; where a put fails or memory is refused, `out` gained a prefix of that.
-=======
-/// it, and the end row. Answers how the run ended.
->>>>>>> theirs
 pub fn rest<K: Sink>(
     alloc: Global,
     scene: &Scene,

@@ -1,5 +1,5 @@
 -- Rows compared with an output: the first difference, and what a comparison comes to.
-use Rattle.std.proofs.Common.{◌≡◌, ℕ, zero, suc, List, [], ◌∷◌, take, Option, None, Some, Ok, Err, inl, refl, sym, ap, ◌∙◌, subst}
+use Rattle.std.proofs.Common.{◌≡◌, ℕ, zero, suc, List, [], ◌∷◌, take, None, Some, Ok, Err, inl, refl, sym, ap, ◌∙◌, subst}
 use Rattle.std.proofs.KnownBytes.{Appends-nil}
 use Rattle.dem_outside.specs.Change.{Stream, Change, IsCalm, Gains, GainsPrefix, Fails}
 use Rattle.dem_outside.proofs.Prefixes.{AppendsPrefix-nil}

@@ -1,4 +1,4 @@
-use Rattle.std.proofs.Common.{◌++◌, codes, refl}
+use Rattle.std.proofs.Common.{refl}
 use Rattle.std.proofs.lemmas.Result.{err_from_is_err_and}
 use Rattle.dem_outside.specs.Change.{change}
 use Rattle.dem_pack.specs.Asks.{answer_of}

@@ -1,8 +1,7 @@
-use Rattle.std.proofs.Common.{◌≤◌, ◌-◌, ◌+◌, length, take, subst, sym, arith}
+use Rattle.std.proofs.Common.{◌+◌, length, take, arith}
 use Rattle.std.proofs.lemmas.List.{length-drop}
 use Rattle.std.proofs.lemmas.Result.{err_from_is_err_and}
 use Rattle.dem_outside.specs.Change.{change}
-use Rattle.dem_top.specs.declared.reading.TheConstants.{MAX_INPUT}
 use Rattle.dem_top.specs.Marks.{behind}
 use Rattle.dem_top.specs.Resumed.{frame_mark, resumed}
 use Rattle.dem_top.proofs.InputFacts.{scene-bad, scene-good}

@@ -80,12 +80,8 @@ fn serve_until_stop<R: Wait, G: Gate, L: Ledger>(
         if swap.stopped(seat) {
             return;
         }
-        if finder.pace.naps() {
-            rest.nap(rt);
-        } else {
-            let has_served = finder.serve(swap, seat, gate);
-            rest.after(rt, has_served);
-        }
+        let has_served = finder.serve(swap, seat, gate);
+        rest.after(rt, has_served);
     }
     unreachable!()
 }
@@ -110,7 +106,7 @@ impl<'a, L: Ledger> Finder<'a, L> {
         }
     }
 
-    /// Tries once to take the parcel, and if it comes, delivers it with its list; whether it came.
+    /// Tries once to take the parcel, unless it is too soon, and if it comes, delivers it with its list; whether it came.
     fn serve<G: Gate>(&mut self, swap: &Swap, seat: &mut KinSeat, gate: &G) -> bool
         requires seat { seat.old.table ≡ swap.now }
         requires terms { seat.old.view.terms ≡ Some (terms_of self.old.shapes.now self.old.grid.now.drift) }
@@ -121,6 +117,9 @@ impl<'a, L: Ledger> Finder<'a, L> {
         ensures shapes { self.new.shapes ≡ self.old.shapes }
         ensures grid { self.new.grid ≡ self.old.grid }
     {
+        if self.pace.waits() {
+            return false;
+        }
         let nth = self.served.saturating_add(1);
         gate.pass(Point::Take, nth);
         match swap.take(seat) {

@@ -16,9 +16,6 @@ const WAKES: u32 = 600;
 /// How long a sleep takes at least, in microseconds.
 const NAP: u64 = 20;
 
-/// How long a sleep takes where nobody waits for this side, in microseconds.
-const LONG_NAP: u64 = 200;
-
 /// The pauses of one side since it last had something to do.
 #[derive(Drop)]
 pub struct Rest {
@@ -42,13 +39,6 @@ impl Rest {
         } else {
             self.pause(rt);
         }
-    }
-
-    /// Sleeps where nobody waits for this side, and begins anew.
-    pub fn nap<R: Wait>(&mut self, rt: &R) {
-        self.pauses = 0;
-        self.bed
-            .park_timeout(rt, 0, Duration::from_micros(LONG_NAP));
     }
 
     /// One more pause, by how many there were.

@@ -28,11 +28,11 @@ impl Pace {
         waits
     }
 
-    /// Sets how many pauses follow this snapshot: more, where the run made fewer steps since the last one than half of what a list may
-    /// be used for, and else half as many. With a drift limit of 0 or 1 there is none.
+    /// Sets how many pauses follow this snapshot: more, where the run made fewer steps since the last one than a quarter of the drift
+    /// limit, and else half as many. A list is then in use long before the one before it is too old. Below a limit of 8 there is none.
     pub fn after(&mut self, drift: u32, step: u32) {
         let made = step.saturating_sub(self.last);
-        self.pauses = if made < drift / 2 {
+        self.pauses = if made < drift / 4 {
             longer(self.pauses)
         } else {
             self.pauses / 2

@@ -82,6 +82,7 @@ fn serve_until_stop<R: Wait, G: Gate, L: Ledger>(
         }
         let has_served = finder.serve(swap, seat, gate);
         rest.after(rt, has_served);
+        rest.nap_if(rt, finder.is_early());
     }
     unreachable!()
 }
@@ -133,6 +134,11 @@ impl<'a, L: Ledger> Finder<'a, L> {
             }
             None => false,
         }
+    }
+
+    /// Whether it was too soon for the next parcel.
+    fn is_early(&self) -> bool {
+        self.pace.is_early()
     }
 
     /// The parcel with the near pairs of its snapshot; or refused.

@@ -41,6 +41,13 @@ impl Rest {
         }
     }
 
+    /// Sleeps once, where it is too soon for more work.
+    pub fn nap_if<R: Wait>(&mut self, rt: &R, is_early: bool) {
+        if is_early {
+            self.bed.park_timeout(rt, 0, Duration::from_micros(NAP));
+        }
+    }
+
     /// One more pause, by how many there were.
     fn pause<R: Wait>(&mut self, rt: &R) {
         if self.pauses < SPINS {

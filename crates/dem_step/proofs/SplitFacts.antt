@@ -146,8 +146,8 @@ between-join from middle to ps le more =
     ∙ ap (λ n. take n (drop from ps)) size
 
 -- all pairs
-pub between-whole : (ps : List Pair) → pairs_between 0 (length ps) ps ≡ ps
-between-whole ps = take_all (length ps - 0) ps (omega arith)
+pub between-whole : (n : ℕ) (ps : List Pair) → n ≡ length ps → pairs_between 0 n ps ≡ ps
+between-whole n ps e = take_all (n - 0) ps (omega (arith, e))
 
 -- how many pairs a part has
 pub length-between : (from to : ℕ) (ps : List Pair) → from ≤ to → to ≤ length ps → length (pairs_between from to ps) ≡ to - from

@@ -10,6 +10,7 @@ use Rattle.dem_model.specs.declared.state.Pair.{Pair}
 use Rattle.dem_force.specs.Sides.{AreSides}
 use Rattle.dem_force.specs.Stored.{IsStored}
 use Rattle.dem_force.specs.declared.pushing.spheres.Spheres.{Spheres}
+use Rattle.dem_list.specs.Ascending.{IsAscending}
 use Rattle.dem_hist.specs.Carrying.{HeldByPlace}
 use Rattle.dem_step.specs.Contacts.{ArePairs}
 use Rattle.dem_step.specs.Marks.{AreMarked}
@@ -43,6 +44,7 @@ pub record IsReady (s : SceneValue) (bodies : List Body) (spheres : Spheres) (co
   pub centers : AreInside s spheres.centers
   pub sides : AreSides s bodies spheres.sides
   pub pairs : ArePairs s contacts.list.pairs
+  pub ascends : IsAscending contacts.list.pairs
   pub within : All IsStored contacts.entries
-  pub marks : length contacts.list.pairs ≤ length marks.may.items
+  pub room : length contacts.list.pairs ≤ length marks.may.items
   pub marked : AreMarked s spheres.centers contacts.list.pairs marks

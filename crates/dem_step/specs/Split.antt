@@ -1,6 +1,5 @@
 -- A step whose list is shared among threads: the pairs of a part, what all parts are made from, and loads that are added.
 use Rattle.std.specs.Prelude.{ℕ, ◌-◌, ◌≡◌, ◌<◌, ◌≤◌, All, List, length, take, drop, Result, Ok, Err, slice_index_or}
-use Rattle.dem_num.specs.declared.vector.Vec3.{Vec3}
 use Rattle.dem_model.specs.SceneValue.{SceneValue}
 use Rattle.dem_model.specs.Motion.{AreInside}
 use Rattle.dem_model.specs.Step.{no_load, load_plus, step_of}

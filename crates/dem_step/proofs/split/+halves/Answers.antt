@@ -1,4 +1,4 @@
-use Rattle.std.proofs.Common.{◌≡◌, ◌+◌, ◌-◌, ◌/◌, ◌<◌, ◌≤◌, ◌++◌, length, subst, arith, List}
+use Rattle.std.proofs.Common.{◌≡◌, ◌+◌, ◌-◌, ◌/◌, ◌++◌, length, subst, arith, List}
 use Rattle.dem_model.specs.declared.state.Pair.{Pair}
 use Rattle.dem_step.specs.Contacts.{held_by}
 use Rattle.dem_step.specs.Inside.{HaveMet}

@@ -1,5 +1,4 @@
-use Rattle.std.proofs.Common.{◌∙◌}
-use Rattle.dem_step.proofs.SplitFacts.{added-none, added-more}
+use Rattle.dem_step.proofs.SplitFacts.{added-none}
 use Rattle.dem_step.proofs.split.add_all.Goals as goal
 
 pub loop-c-init : goal.loop-c-init

@@ -1,4 +1,4 @@
-use Rattle.std.proofs.Common.{◌≡◌, length, sym, ap, ◌∙◌, subst, arith, List}
+use Rattle.std.proofs.Common.{length, ap, ◌∙◌, subst, arith, List}
 use Rattle.dem_model.specs.declared.state.Pair.{Pair}
 use Rattle.dem_list.specs.Ascending.{IsAscending, Pairs}
 use Rattle.dem_step.specs.Contacts.{held_by}

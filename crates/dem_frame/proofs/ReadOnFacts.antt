@@ -11,7 +11,7 @@ use Rattle.dem_model.specs.declared.state.Body.{Body}
 use Rattle.dem_model.specs.declared.state.Held.{Held}
 use Rattle.dem_frame.specs.Records.{row_of, is_row, whole_of, top, head_of, clump_of, body_of_clump, body_of, pair_of, held_of, held_from, is_small, continues}
 use Rattle.csv.specs.Records.{field_at}
-use Rattle.dem_frame.specs.PartialFrames.{read_on, with_record, with_head, with_body, last_held}
+use Rattle.dem_frame.specs.PartialFrames.{with_record, with_head, with_body, last_held}
 use Rattle.dem_frame.specs.ReadBack.{FitEach, BodyFits, body_numbers, IsOrdered, IsStored, Ascends}
 use Rattle.dem_frame.specs.declared.partial.PartialFrame.{PartialFrame}
 use Rattle.dem_frame.proofs.DecimalFacts.{numbers_of-decimals}

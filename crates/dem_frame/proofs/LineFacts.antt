@@ -1,5 +1,5 @@
 -- A row is one record, and the lines of a text come one after the other.
-use Rattle.std.proofs.Common.{◌≡◌, ℕ, ℤ, List, [], ◌∷◌, ◌++◌, codes, map, false, Some, None, FitsSigned, w64, refl}
+use Rattle.std.proofs.Common.{◌≡◌, ℕ, ℤ, List, [], ◌∷◌, ◌++◌, map, false, Some, None, FitsSigned, w64, refl}
 use Rattle.std.specs.Fmt.{signed_decimal}
 use Rattle.std.specs.List.{AllByRecursion, list_any, flat_map}
 use Rattle.csv.specs.Machine.{next_record}

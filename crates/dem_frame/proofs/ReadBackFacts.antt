@@ -1,10 +1,9 @@
 -- The frame of a state reads back as that state.
-use Rattle.std.proofs.Common.{◌≡◌, ℕ, ◌+◌, ◌-◌, ◌<◌, ◌≤◌, ◌^◌, All, pos, List, [], ◌∷◌, ◌++◌, codes, length, length-append, get_or, true, false, Option, Some, None, Result, Ok, Err, suc, zero, sym, ap, subst, ◌∙◌, refl, append_assoc, append-nil, arith, option_and_then}
-use Rattle.std.specs.Prelude.{ok_or, slice_get}
+use Rattle.std.proofs.Common.{◌≡◌, ℕ, ◌+◌, ◌-◌, ◌<◌, ◌≤◌, All, pos, List, [], ◌∷◌, ◌++◌, codes, length, length-append, true, Option, Some, Result, Ok, ap, subst, ◌∙◌, refl, append_assoc, append-nil, arith}
+use Rattle.std.specs.Prelude.{ok_or}
 use Rattle.std.proofs.lemmas.Bool.{lt-ltb, le-ltb}
-use Rattle.std.proofs.lemmas.Option.{slice_get-get_or, same_Some}
+use Rattle.std.proofs.lemmas.Option.{slice_get-get_or}
 use Rattle.std.proofs.Math.Seq.{get_or-append_seam}
-use Rattle.dem_num.specs.Vectors.{widened, Within}
 use Rattle.csv.specs.Reading.{Reached, default_config, strip_bom}
 use Rattle.csv.specs.declared.parser.State.TheVariants as st
 use Rattle.dem_model.specs.Frames.{row_text, head_text, clump_text, clumps_text, pair_text, pairs_text, state_text}
@@ -13,7 +12,7 @@ use Rattle.dem_model.specs.declared.state.Held.{Held}
 use Rattle.dem_model.specs.declared.state.State.{State}
 use Rattle.dem_frame.specs.Records.{continues}
 use Rattle.dem_frame.specs.PartialFrames.{nothing_read, with_record, with_head, with_body, last_held, whole_frame, frame_of, Gives}
-use Rattle.dem_frame.specs.ReadBack.{FitEach, BodyFits, body_numbers, IsOrdered, IsStored, Ascends, IsWritable, ReadsBack}
+use Rattle.dem_frame.specs.ReadBack.{BodyFits, body_numbers, IsOrdered, IsStored, Ascends, IsWritable, ReadsBack}
 use Rattle.dem_frame.specs.declared.partial.PartialFrame.{PartialFrame}
 use Rattle.dem_frame.specs.declared.partial.FrameFault.{FrameFault}
 use Rattle.dem_frame.specs.declared.partial.FrameFault.TheVariants.{Short}

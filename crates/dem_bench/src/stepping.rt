@@ -13,10 +13,17 @@ use dem_step::Dyn;
 use std::alloc::Global;
 use std::marker::Brand;
 use std::sync::ledger::{Blank, Ledger};
+use std::thread::Threads;
 
 /// Makes so many steps of a scene on one list, or fewer where the run or the list ends, and tells what was done. The list may be
-/// used up to this age, in steps.
-pub fn run_scene(alloc: Global, scene: &Scene, drift: u32, wanted: u32) -> Result<Tally>
+/// used up to this age, in steps. Where threads are given, the steps are split among them.
+pub fn run_scene<R: Threads + Sync>(
+    alloc: Global,
+    threads: Option<&R>,
+    scene: &Scene,
+    drift: u32,
+    wanted: u32,
+) -> Result<Tally>
     requires drift { drift ≤ 1024 }
 {
     let Ok(shapes) = Shapes::new(alloc, scene) else {
@@ -26,7 +33,7 @@ pub fn run_scene(alloc: Global, scene: &Scene, drift: u32, wanted: u32) -> Resul
         bail!("out of memory");
     };
     take_list(alloc, &mut run)?;
-    Ok(make_steps::<Brand>(&mut run, wanted, Blank::new(1)))
+    Ok(make_steps::<R, Brand>(threads, &mut run, wanted, Blank::new(1)))
 }
 
 /// Takes the near pairs of the run's state into use.
@@ -60,7 +67,12 @@ fn near_list(alloc: Global, run: &Dyn) -> Result<PairList>
 }
 
 /// Makes the steps, while the scene has more and the list isn't too old.
-fn make_steps<L: Ledger>(run: &mut Dyn, wanted: u32, blank: Blank) -> Tally
+fn make_steps<R: Threads + Sync, L: Ledger>(
+    threads: Option<&R>,
+    run: &mut Dyn,
+    wanted: u32,
+    blank: Blank,
+) -> Tally
     requires name { blank.name ≡ L.name }
     requires parts { blank.parts ≡ L.parts }
     requires some { 0 < L.parts }
@@ -71,7 +83,7 @@ fn make_steps<L: Ledger>(run: &mut Dyn, wanted: u32, blank: Blank) -> Tally
         if end.is_some() || !run.can_step() {
             break;
         }
-        end = run.step(&mut tests).err();
+        end = run.step_on(threads, &mut tests).err();
     }
     Tally {
         spheres: run.shapes().spheres(),

@@ -1,34 +1,36 @@
-//! The meetings of a step on a list, with the contacts computed by several threads and then summed in the order of the list.
+//! The meetings of a step on a list, shared among threads: each sums those of a part of the list, and the sums are added.
 
-ghost use Rattle.std.specs.Prelude.{◌≡◌, ◌+◌, ◌<◌, ◌≤◌, [], ◌∷◌, ◌++◌, if◌then◌else◌, None, All, IfSome, OnOk, length, slice_index_or};
-ghost use Rattle.std.specs.Option.{option_map};
+ghost use Rattle.std.specs.Prelude.{ℕ, ◌≡◌, ◌+◌, ◌<◌, ◌≤◌, All, length, slice_set, slice_index_or};
+ghost use Rattle.std.specs.Thread.{IsSync};
 ghost use Rattle.dem_model.specs.Motion.{AreInside, IsPair};
-ghost use Rattle.dem_model.specs.Ranges.{IsSmall};
-ghost use Rattle.dem_force.specs.Loads.{AreLoads};
-ghost use Rattle.dem_force.specs.Places.{meeting_with};
+ghost use Rattle.dem_model.specs.Step.{meeting, no_load};
+ghost use Rattle.dem_force.specs.Loads.{AreLoads, CanGrow};
 ghost use Rattle.dem_force.specs.Sides.{AreSides};
 ghost use Rattle.dem_force.specs.Stored.{IsStored};
 ghost use Rattle.dem_step.specs.Contacts.{ArePairs, held_by};
-ghost use Rattle.dem_step.specs.Inside.{loads_after, displacement_of, HaveMet};
-ghost use Rattle.dem_step.specs.Marks.{AreMarked, is_met};
-ghost use Rattle.dem_step.specs.Split.{met_places, IsGathered, IsReady, IsPushOf};
+ghost use Rattle.dem_step.specs.Inside.{loads_after, displacement_of, IsSmallMeeting, HaveMet};
+ghost use Rattle.dem_step.specs.Marks.{AreMarked};
+ghost use Rattle.dem_step.specs.Split.{pairs_between, both_loads, AreAdded, IsReady};
 
 use crate::marks::Marks;
-use crate::meeting::{clear, meet_all};
+use crate::meeting::clear;
 use crate::room::make_room;
 use dem_force::{Spheres, add_push, pushed_uncounted};
 use dem_hist::Contacts;
-use dem_model::{Body, End, Load, OutOfMemory, Pair, Push, Steps};
-use dem_num::Vec3;
+use dem_model::{Body, End, Load, OutOfMemory, Pair};
+use dem_num::{Vec3, WIDE_ZERO, add3};
 use dem_shape::Shapes;
-use rayon::prelude::*;
 use std::alloc::Global;
-use std::marker::Brand;
-use std::sync::ledger::{Blank, Ledger};
-use std::thread::Threads;
+use std::thread::{Threads, join_mut};
 
-/// Fewer pairs than these are met on one thread: to start threads takes longer.
+/// Where fewer pairs touched in the step before, one thread makes the step: to start threads takes longer.
 const LEAST_SPLIT: usize = 4096;
+
+/// How often the list is halved.
+const HALVINGS: u32 = 2;
+
+/// The parts that this gives, but the first.
+const MORE_PARTS: u32 = 3;
 
 /// Why a split step wasn't made: it passes a limit, or its memory was refused; then a step that isn't split takes none.
 #[derive(Clone, Copy, PartialEq, Debug)]
@@ -37,68 +39,36 @@ pub enum SplitStop {
     OutOfMemory,
 }
 
-/// Room for a split step, kept from one to the next: the places of the pairs that it looks at, in their order, and what
-/// each of these pairs comes to.
+/// Room for a split step, kept from one to the next: the sums of the parts of the list but the first. And how many pairs touched
+/// in the last step.
 #[derive(Drop)]
 pub struct SplitRoom {
-    pub places: Vec<u32>,
-    pub pushes: Vec<Option<Push>>,
+    pub sums: Vec<Load>,
+    pub touching: u32,
 }
 
 impl SplitRoom {
     /// No room yet; it keeps `alloc` and takes no memory.
     pub fn new(alloc: Global) -> SplitRoom {
         SplitRoom {
-            places: Vec::new(alloc),
-            pushes: Vec::new(alloc),
+            sums: Vec::new(alloc),
+            touching: 0,
         }
     }
 
-    /// Lists the places below `count` whose pairs are looked at, and makes room for what they come to: all the memory of a step.
-    pub fn gather(&mut self, marks: &Marks, count: u32) -> Result<(), OutOfMemory>
-        requires { count ≤ length marks.now.may.items }
-        ensures { OnOk result (IsGathered marks.now count self.new) }
-    {
-        list_places(&mut self.places, marks, count)?;
-        make_room(&mut self.pushes, None, self.places.len() as u32)
-    }
-}
-
-/// Lists the places below `count` whose pairs are looked at.
-fn list_places(places: &mut Vec<u32>, marks: &Marks, count: u32) -> Result<(), OutOfMemory>
-    requires { count ≤ length marks.now.may.items }
-    ensures { OnOk result (places.new.items ≡ met_places marks.now count) }
-{
-    places.clear();
-    for i in 0..count {
-        list_place(places, marks, i)?;
-    }
-    Ok(())
-}
-
-/// Lists one more place, if its pair is looked at.
-fn list_place(places: &mut Vec<u32>, marks: &Marks, i: u32) -> Result<(), OutOfMemory>
-    requires { i < length marks.now.may.items }
-    ensures { OnOk result (places.new.items ≡ places.old.items ++ (if is_met marks.now i then i ∷ [] else [])) }
-{
-    if marks.is_met(i) {
-        return put(places, i);
-    }
-    Ok(())
-}
-
-/// Puts one more place behind those that are listed.
-fn put(places: &mut Vec<u32>, i: u32) -> Result<(), OutOfMemory>
-    ensures { OnOk result (places.new.items ≡ places.old.items ++ i ∷ []) }
-{
-    match places.push(i) {
-        Ok(()) => Ok(()),
-        Err(_) => Err(OutOfMemory),
+    /// Makes room for the sums of all parts but the first: all the memory of a step.
+    pub fn gather(&mut self, shapes: &Shapes) -> Result<(), OutOfMemory> {
+        let nothing = Load {
+            force: WIDE_ZERO,
+            torque: WIDE_ZERO,
+        };
+        let count = shapes.scene().clumps.len() as u32;
+        make_room(&mut self.sums, nothing, count.saturating_mul(MORE_PARTS))
     }
 }
 
 /// Puts what the pairs of the list come to, as a step that isn't split does: into `loads` the sums per clump, into `fresh` a
-/// displacement, or None, by place. The places of the pairs that are looked at were listed before.
+/// displacement, or None, by place.
 pub fn meet_split<R: Threads + Sync>(
     rt: &R,
     room: &mut SplitRoom,
@@ -110,7 +80,6 @@ pub fn meet_split<R: Threads + Sync>(
     contacts: &Contacts,
     marks: &Marks,
 )
-    requires gathered { IsGathered marks.now (length contacts.now.list.pairs) room.old }
     requires loads { length loads.old ≡ length shapes.now.clumps }
     requires fresh { length contacts.now.list.pairs ≤ length fresh.old }
     requires centers { AreInside shapes.now spheres.now.centers }
@@ -122,158 +91,254 @@ pub fn meet_split<R: Threads + Sync>(
     ensures met { HaveMet shapes.now bodies.now spheres.now.centers (held_by contacts.now) contacts.now.list.pairs loads.new fresh.new }
     ensures room { length fresh.new ≡ length fresh.old }
 {
-    if room.places.len() < LEAST_SPLIT {
-        let blank = Blank::new(1);
-        return meet_here::<Brand>(
-            loads, fresh, shapes, spheres, bodies, contacts, marks, blank,
-        );
-    }
-    compute(
+    let depth = halvings(room.touching, loads.len());
+    room.touching = meet_part(
         rt,
-        room.pushes.as_mut_slice(),
-        room.places.as_slice(),
-        shapes,
-        spheres,
-        bodies,
-        contacts,
-    );
-    sum_up(
-        loads,
-        fresh,
-        room.pushes.as_slice(),
-        room.places.as_slice(),
+        depth,
+        0,
+        contacts.list().len(),
         shapes,
         spheres,
         bodies,
         contacts,
         marks,
+        loads,
+        room.sums.as_mut_slice(),
+        fresh,
     );
 }
 
-/// The meetings on this thread, with a counter of tests over this blank that nobody reads.
-fn meet_here<L: Ledger>(
-    loads: &mut [Load],
-    fresh: &mut [Option<Vec3>],
-    shapes: &Shapes,
-    spheres: &Spheres,
-    bodies: &[Body],
-    contacts: &Contacts,
-    marks: &Marks,
-    blank: Blank,
-)
-    requires name { blank.name ≡ L.name }
-    requires parts { blank.parts ≡ L.parts }
-    requires some { 0 < L.parts }
-    requires loads { length loads.old ≡ length shapes.now.clumps }
-    requires fresh { length contacts.now.list.pairs ≤ length fresh.old }
-    requires centers { AreInside shapes.now spheres.now.centers }
-    requires sides { AreSides shapes.now bodies.now spheres.now.sides }
-    requires pairs { ArePairs shapes.now contacts.now.list.pairs }
-    requires within { All IsStored contacts.now.entries }
-    requires marks { length contacts.now.list.pairs ≤ length marks.now.may.items }
-    requires marked { AreMarked shapes.now spheres.now.centers contacts.now.list.pairs marks.now }
-    ensures met { HaveMet shapes.now bodies.now spheres.now.centers (held_by contacts.now) contacts.now.list.pairs loads.new fresh.new }
-    ensures room { length fresh.new ≡ length fresh.old }
-{
-    let mut tests = Steps::<L>::new(blank);
-    meet_all(
-        loads, fresh, shapes, spheres, bodies, contacts, marks, &mut tests,
-    );
-}
-
-/// Puts what the pairs at these places come to, by rank, from several threads.
-fn compute<R: Threads + Sync>(
-    rt: &R,
-    pushes: &mut [Option<Push>],
-    places: &[u32],
-    shapes: &Shapes,
-    spheres: &Spheres,
-    bodies: &[Body],
-    contacts: &Contacts,
-)
-    requires ready { IsReady shapes.now bodies.now spheres.now contacts.now }
-    requires places { All (λ i. i < length contacts.now.list.pairs) places.now }
-    ensures room { length pushes.new ≡ length pushes.old }
-    ensures each { (rank : _) → rank < length pushes.old → IsPushOf shapes.now bodies.now spheres.now.centers contacts.now places.now rank (slice_index_or pushes.new rank None) }
-{
-    par_for_each_mut(
-        rt,
-        pushes,
-        |rank: usize, push: &mut Option<Push>|
-            requires ready { IsReady shapes.now bodies.now spheres.now contacts.now }
-            requires places { All (λ i. i < length contacts.now.list.pairs) places.now }
-            ensures { IsPushOf shapes.entry.now bodies.entry.now spheres.entry.now.centers contacts.entry.now places.entry.now rank push.new }
-        { *push = push_of(places, rank, shapes, spheres, bodies, contacts) },
-    );
-}
-
-/// What the pair comes to whose place is the one of this rank.
-fn push_of(
-    places: &[u32],
-    rank: usize,
-    shapes: &Shapes,
-    spheres: &Spheres,
-    bodies: &[Body],
-    contacts: &Contacts,
-) -> Option<Push>
-    requires ready { IsReady shapes.now bodies.now spheres.now contacts.now }
-    requires places { All (λ i. i < length contacts.now.list.pairs) places.now }
-    ensures { IsPushOf shapes.now bodies.now spheres.now.centers contacts.now places.now rank result }
-{
-    let place = *places.get(rank)?;
-    let pair = contacts.list().get(place);
-    pushed_uncounted(shapes, spheres, bodies, pair, contacts.held(place))
-}
-
-/// Sums what was computed, in the order of the list: into `loads` per clump, into `fresh` a displacement, or None, by place.
-/// The places and the bodies stand here for what is promised.
-fn sum_up(
-    loads: &mut [Load],
-    fresh: &mut [Option<Vec3>],
-    pushes: &[Option<Push>],
-    places: &[u32],
-    shapes: &Shapes,
-    spheres: &Spheres,
-    bodies: &[Body],
-    contacts: &Contacts,
-    marks: &Marks,
-)
-    requires loads { length loads.old ≡ length shapes.now.clumps }
-    requires fresh { length contacts.now.list.pairs ≤ length fresh.old }
-    requires pairs { ArePairs shapes.now contacts.now.list.pairs }
-    requires marks { length contacts.now.list.pairs ≤ length marks.now.may.items }
-    requires marked { AreMarked shapes.now spheres.now.centers contacts.now.list.pairs marks.now }
-    requires places { places.now ≡ met_places marks.now (length contacts.now.list.pairs) }
-    requires room { length places.now ≤ length pushes.now }
-    requires each { (rank : _) → rank < length pushes.now → IsPushOf shapes.now bodies.now spheres.now.centers contacts.now places.now rank (slice_index_or pushes.now rank None) }
-    ensures met { HaveMet shapes.now bodies.now spheres.now.centers (held_by contacts.now) contacts.now.list.pairs loads.new fresh.new }
-    ensures room { length fresh.new ≡ length fresh.old }
-{
-    clear(loads);
-    let mut rank = 0;
-    for i in 0..contacts.list().len() {
-        if marks.is_met(i) {
-            fresh[i as usize] = add(loads, shapes, contacts.list().get(i), &pushes[rank]);
-            rank += 1;
-        } else {
-            fresh[i as usize] = None;
-        }
+/// How often the list of a step is halved, by how many pairs touched in the step before: not at all where they are few, by themselves
+/// or beside the clumps, since the sums of each part are added clump by clump.
+fn halvings(touching: u32, clumps: usize) -> u32 {
+    if (touching as usize) < LEAST_SPLIT.max(clumps) {
+        0
+    } else {
+        HALVINGS
     }
 }
 
-/// Adds what a pair does to the loads of its clumps, and gives its displacement, where it does something.
-fn add(loads: &mut [Load], shapes: &Shapes, pair: Pair, push: &Option<Push>) -> Option<Vec3>
-    requires pair { IsPair shapes.now pair }
-    requires loads { AreLoads shapes.now loads.old }
-    requires push { IfSome push.now IsSmall }
-    ensures loads { loads.new ≡ loads_after shapes.now loads.old (option_map (meeting_with pair) push.now) }
-    ensures entry { result ≡ displacement_of (option_map (meeting_with pair) push.now) }
+/// The meetings of the pairs from place `from` to before place `to`, shared among threads by halves while there is depth and room for
+/// their sums left. It tells how many of them touch.
+#[cycle(halves)]
+fn meet_part<R: Threads + Sync>(
+    rt: &R,
+    depth: u32,
+    from: u32,
+    to: u32,
+    shapes: &Shapes,
+    spheres: &Spheres,
+    bodies: &[Body],
+    contacts: &Contacts,
+    marks: &Marks,
+    loads: &mut [Load],
+    sums: &mut [Load],
+    fresh: &mut [Option<Vec3>],
+) -> u32
+    requires ready { IsReady shapes.now bodies.now spheres.now contacts.now marks.now }
+    requires order { from ≤ to }
+    requires there { to ≤ length contacts.now.list.pairs }
+    requires loads { length loads.old ≡ length shapes.now.clumps }
+    requires fresh { to ≤ length fresh.old + from }
+    ensures met { HaveMet shapes.now bodies.now spheres.now.centers (held_by contacts.now) (pairs_between from to contacts.now.list.pairs) loads.new fresh.new }
+    ensures room { length fresh.new ≡ length fresh.old }
 {
-    match push {
-        Some(push) => {
-            add_push(loads, shapes, pair, push);
-            Some(push.h)
+    if depth == 0 || sums.len() < loads.len() {
+        return meet_range(
+            from, to, shapes, spheres, bodies, contacts, marks, loads, fresh,
+        );
+    }
+    let (own, rest) = sums.split_at_mut(loads.len());
+    let low = (to - from) / 2;
+    let (front, back) = fresh.split_at_mut(low as usize);
+    let touching = both_halves(
+        rt,
+        depth,
+        from,
+        from + low,
+        to,
+        shapes,
+        spheres,
+        bodies,
+        contacts,
+        marks,
+        loads,
+        own,
+        rest,
+        front,
+        back,
+    );
+    add_all(loads, own);
+    touching
+}
+
+/// The meetings of two parts of the list, side by side: the first in another thread, where one can be made.
+#[cycle(halves)]
+fn both_halves<R: Threads + Sync>(
+    rt: &R,
+    depth: u32,
+    from: u32,
+    middle: u32,
+    to: u32,
+    shapes: &Shapes,
+    spheres: &Spheres,
+    bodies: &[Body],
+    contacts: &Contacts,
+    marks: &Marks,
+    loads: &mut [Load],
+    own: &mut [Load],
+    rest: &mut [Load],
+    front: &mut [Option<Vec3>],
+    back: &mut [Option<Vec3>],
+) -> u32
+    requires depth { 0 < depth }
+    requires ready { IsReady shapes.now bodies.now spheres.now contacts.now marks.now }
+    requires first { from ≤ middle }
+    requires second { middle ≤ to }
+    requires there { to ≤ length contacts.now.list.pairs }
+    requires loads { length loads.old ≡ length shapes.now.clumps }
+    requires own { length own.old ≡ length shapes.now.clumps }
+    requires front { middle ≤ length front.old + from }
+    requires back { to ≤ length back.old + middle }
+    ensures front { HaveMet shapes.now bodies.now spheres.now.centers (held_by contacts.now) (pairs_between from middle contacts.now.list.pairs) loads.new front.new }
+    ensures back { HaveMet shapes.now bodies.now spheres.now.centers (held_by contacts.now) (pairs_between middle to contacts.now.list.pairs) own.new back.new }
+    ensures front_room { length front.new ≡ length front.old }
+    ensures back_room { length back.new ≡ length back.old }
+{
+    let half = rest.len() / 2;
+    let (ahead, behind) = rest.split_at_mut(half);
+    let mut first = || -> u32
+        requires { IsSync R.row × (0 < depth) × IsReady shapes.now bodies.now spheres.now contacts.now marks.now × (from ≤ middle) × (middle ≤ length contacts.now.list.pairs) × (length loads.now ≡ length shapes.now.clumps) × (middle ≤ length front.now + from) }
+        ensures { HaveMet shapes.entry.now bodies.entry.now spheres.entry.now.centers (held_by contacts.entry.now) (pairs_between from middle contacts.entry.now.list.pairs) loads.exit.now front.exit.now × (length front.exit.now ≡ length front.entry.now) }
+    {
+        meet_part(
+            rt,
+            depth - 1,
+            from,
+            middle,
+            shapes,
+            spheres,
+            bodies,
+            contacts,
+            marks,
+            loads,
+            ahead,
+            front,
+        )
+    };
+    let mut second = || -> u32
+        requires { IsSync R.row × (0 < depth) × IsReady shapes.now bodies.now spheres.now contacts.now marks.now × (middle ≤ to) × (to ≤ length contacts.now.list.pairs) × (length own.now ≡ length shapes.now.clumps) × (to ≤ length back.now + middle) }
+        ensures { HaveMet shapes.entry.now bodies.entry.now spheres.entry.now.centers (held_by contacts.entry.now) (pairs_between middle to contacts.entry.now.list.pairs) own.exit.now back.exit.now × (length back.exit.now ≡ length back.entry.now) }
+    {
+        meet_part(
+            rt,
+            depth - 1,
+            middle,
+            to,
+            shapes,
+            spheres,
+            bodies,
+            contacts,
+            marks,
+            own,
+            behind,
+            back,
+        )
+    };
+    let (here, there) = join_mut(rt, &mut first, &mut second);
+    here.saturating_add(there)
+}
+
+/// The meetings of a part of the list on this thread; it tells how many pairs touch.
+fn meet_range(
+    from: u32,
+    to: u32,
+    shapes: &Shapes,
+    spheres: &Spheres,
+    bodies: &[Body],
+    contacts: &Contacts,
+    marks: &Marks,
+    loads: &mut [Load],
+    fresh: &mut [Option<Vec3>],
+) -> u32
+    requires ready { IsReady shapes.now bodies.now spheres.now contacts.now marks.now }
+    requires order { from ≤ to }
+    requires there { to ≤ length contacts.now.list.pairs }
+    requires loads { length loads.old ≡ length shapes.now.clumps }
+    requires fresh { to ≤ length fresh.old + from }
+    ensures met { HaveMet shapes.now bodies.now spheres.now.centers (held_by contacts.now) (pairs_between from to contacts.now.list.pairs) loads.new fresh.new }
+    ensures room { length fresh.new ≡ length fresh.old }
+{
+    clear(loads);
+    let mut touching = 0u32;
+    for i in from..to {
+        if marks.is_met(i) {
+            let pair = contacts.list().get(i);
+            let held = contacts.held(i);
+            let entry = meet(loads, shapes, spheres, bodies, pair, held);
+            touching = touching.saturating_add(entry.is_some() as u32);
+            fresh[(i - from) as usize] = entry;
+        } else {
+            fresh[(i - from) as usize] = None;
         }
-        None => None,
+    }
+    touching
+}
+
+/// Adds what a pair does to the loads of its clumps, and gives its displacement, where it touches.
+fn meet(
+    loads: &mut [Load],
+    shapes: &Shapes,
+    spheres: &Spheres,
+    bodies: &[Body],
+    pair: Pair,
+    held: Option<Vec3>,
+) -> Option<Vec3>
+    requires pair { IsPair shapes.now pair }
+    requires centers { AreInside shapes.now spheres.now.centers }
+    requires sides { AreSides shapes.now bodies.now spheres.now.sides }
+    requires held { IsStored held }
+    requires loads { AreLoads shapes.now loads.old }
+    ensures loads { loads.new ≡ loads_after shapes.now loads.old (meeting shapes.now bodies.now spheres.now.centers pair held) }
+    ensures entry { result ≡ displacement_of (meeting shapes.now bodies.now spheres.now.centers pair held) }
+    ensures small { IsSmallMeeting (meeting shapes.now bodies.now spheres.now.centers pair held) }
+{
+    let push = pushed_uncounted(shapes, spheres, bodies, pair, held)?;
+    add_push(loads, shapes, pair, &push);
+    Some(push.h)
+}
+
+/// Adds to each load the one at its place.
+fn add_all(loads: &mut [Load], others: &[Load])
+    requires sizes { length others.now ≡ length loads.old }
+    requires first { (c : ℕ) → c < length loads.old → CanGrow (slice_index_or loads.old c no_load) }
+    requires second { (c : ℕ) → c < length loads.old → CanGrow (slice_index_or others.now c no_load) }
+    ensures added { AreAdded loads.old others.now loads.new (length loads.old) }
+{
+    for c in 0..loads.len() {
+        add_load(loads, c, others[c]);
+    }
+}
+
+/// Adds a load to the one at a place.
+fn add_load(loads: &mut [Load], c: usize, other: Load)
+    requires there { c < length loads.old }
+    requires first { CanGrow (slice_index_or loads.old c no_load) }
+    requires second { CanGrow other }
+    ensures { loads.new ≡ slice_set loads.old c (both_loads (slice_index_or loads.old c no_load) other) }
+{
+    let load = loads[c];
+    loads[c] = both(load, other);
+}
+
+/// What a clump feels of two loads.
+fn both(load: Load, other: Load) -> Load
+    requires first { CanGrow load }
+    requires second { CanGrow other }
+    ensures { result ≡ both_loads load other }
+{
+    Load {
+        force: add3(load.force, other.force),
+        torque: add3(load.torque, other.torque),
     }
 }

@@ -26,7 +26,7 @@ impl<'s> Dyn<'s> {
             self.contacts.list(),
             left,
         );
-        if let Err(OutOfMemory) = self.split.gather(&self.marks, self.contacts.list().len()) {
+        if let Err(OutOfMemory) = self.split.gather(self.shapes) {
             return Err(SplitStop::OutOfMemory);
         }
         meet_split(

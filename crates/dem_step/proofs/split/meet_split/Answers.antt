@@ -1,21 +1,30 @@
-use Rattle.std.proofs.Common.{◌≡◌, ℕ, ◌<◌, List, length, sym, ap, ◌∙◌, subst, arith, Option, None}
-use Rattle.std.specs.Prelude.{All, slice_get, slice_index_or}
-use Rattle.std.proofs.lemmas.List.{with_items_is}
-use Rattle.dem_model.specs.declared.law.Push.{Push}
-use Rattle.dem_step.specs.Split.{IsPushAt}
-use Rattle.dem_step.proofs.SplitFacts.{places-within}
+use Rattle.std.proofs.Common.{length, ap, ◌∙◌, subst, arith, List}
+use Rattle.dem_model.specs.declared.state.Pair.{Pair}
+use Rattle.dem_list.specs.Ascending.{IsAscending, Pairs}
+use Rattle.dem_step.specs.Contacts.{held_by}
+use Rattle.dem_step.specs.Inside.{HaveMet}
+use Rattle.dem_step.proofs.SplitFacts.{between-whole}
 use Rattle.dem_step.proofs.split.meet_split.Goals as goal
 
-pub compute-requires-clause-places : goal.compute-requires-clause-places
-compute-requires-clause-places g c κs within =
-    subst (All (λ i. i < length c.args.contacts.now.list.pairs)) (sym (c.as_slice.ensures.value ∙ c.requires.gathered.places))
-    (places-within c.args.marks.now (length c.args.contacts.now.list.pairs))
+pub meet_part-room-requires-clause-ready : goal.meet_part-room-requires-clause-ready
+meet_part-room-requires-clause-ready g c κs within = record {
+  centers = c.requires.centers;
+  sides = c.requires.sides;
+  pairs = c.requires.pairs;
+  ascends = subst (λ (l : Pairs). IsAscending l.pairs) c.list.ensures.value c.len.ensures.ascending;
+  within = c.requires.within;
+  room = c.requires.marks;
+  marked = c.requires.marked;
+}
 
-pub sum_up-requires-clause-each : goal.sum_up-requires-clause-each
-sum_up-requires-clause-each g c =
-    let size : length c.compute.new.pushes ≡ c.args.room.now.pushes.len = omega (arith, c.compute.ensures.room, c.as_mut_slice.ensures.len) in
-    let same : c.as_slice-2.result.now ≡ c.compute.new.pushes = c.as_slice-2.ensures.value ∙ with_items_is c.args.room.now.pushes c.compute.new.pushes size in
-    λ rank lt i there.
-    let before : rank < length c.as_mut_slice.result.now = omega (arith, lt, ap length same, c.compute.ensures.room) in
-    subst (λ (ps : List (Option Push)). IsPushAt c.args.shapes.now c.args.bodies.now c.args.spheres.now.centers c.args.contacts.now i (slice_index_or ps rank None)) (sym same)
-    (c.compute.ensures.each rank before i (ap (λ (xs : List ℕ). slice_get xs rank) (c.as_slice.ensures.value ∙ sym c.as_slice-3.ensures.value) ∙ there))
+pub meet_part-room-requires-clause-there : goal.meet_part-room-requires-clause-there
+meet_part-room-requires-clause-there g c κs within = omega (arith, c.len.ensures.value, ap (λ (l : Pairs). length l.pairs) c.list.ensures.value)
+
+pub meet_part-room-requires-clause-fresh : goal.meet_part-room-requires-clause-fresh
+meet_part-room-requires-clause-fresh g c κs within = omega (arith, c.requires.fresh, c.len.ensures.value, ap (λ (l : Pairs). length l.pairs) c.list.ensures.value)
+
+pub returns-clause-met : goal.returns-clause-met
+returns-clause-met g c =
+    subst (λ (ps : List Pair). HaveMet c.args.shapes.now c.args.bodies.now c.args.spheres.now.centers (held_by c.args.contacts.now) ps c.meet_part-room.new.loads c.meet_part-room.new.fresh)
+    (between-whole c.len.result c.args.contacts.now.list.pairs (c.len.ensures.value ∙ ap (λ (l : Pairs). length l.pairs) c.list.ensures.value))
+    c.meet_part-room.ensures.met

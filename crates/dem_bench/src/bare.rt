@@ -1,0 +1,54 @@
+//! Bare work, which reads and writes nothing but its own number: what threads give on this machine at most.
+
+use rayon::prelude::*;
+use std::fmt;
+use std::thread::Threads;
+
+/// Parts of a round: as many as a split step has.
+const PARTS: usize = 4;
+
+/// What came of some rounds, by part.
+#[derive(Drop)]
+pub struct Rounds {
+    rounds: u32,
+    parts: [u64; PARTS],
+}
+
+impl fmt::Display for Rounds {
+    fn fmt<W: fmt::Write>(&self, f: &mut fmt::Formatter<W>) -> fmt::Result {
+        let [a, b, c, d] = self.parts;
+        write!(f, "{} rounds of bare work, {a} {b} {c} {d}", self.rounds)
+    }
+}
+
+/// Makes so many rounds, each of four parts of so many thousand turns: where threads are given the parts are shared among them.
+pub fn make_rounds<R: Threads + Sync>(threads: Option<&R>, rounds: u32, thousands: u32) -> Rounds {
+    let mut parts = [0u64, 1, 2, 3];
+    for _ in 0..rounds {
+        match threads {
+            Some(rt) => par_for_each_mut(rt, parts.as_mut_slice(), |_: usize, part: &mut u64| {
+                *part = turned(*part, thousands)
+            }),
+            None => turn_all(&mut parts, thousands),
+        }
+    }
+    Rounds { rounds, parts }
+}
+
+/// The parts of a round, one after the other.
+fn turn_all(parts: &mut [u64; PARTS], thousands: u32) {
+    for part in parts {
+        *part = turned(*part, thousands);
+    }
+}
+
+/// A number after so many thousand turns, each of which needs the one before.
+fn turned(start: u64, thousands: u32) -> u64 {
+    let mut number = start;
+    for _ in 0..thousands {
+        for _ in 0..1000 {
+            number = number.wrapping_mul(48_271).wrapping_add(11);
+        }
+    }
+    number
+}

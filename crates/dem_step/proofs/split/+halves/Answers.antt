@@ -1,0 +1,33 @@
+use Rattle.std.proofs.Common.{◌≡◌, ◌+◌, ◌-◌, ◌/◌, ◌++◌, length, subst, arith, List}
+use Rattle.dem_model.specs.declared.state.Pair.{Pair}
+use Rattle.dem_step.specs.Contacts.{held_by}
+use Rattle.dem_step.specs.Inside.{HaveMet}
+use Rattle.dem_step.specs.Split.{pairs_between}
+use Rattle.dem_step.proofs.SplitFacts.{between-join, length-between, loads-between, HaveMet-join}
+use Rattle.dem_step.proofs.split.+halves.Goals as goal
+
+pub meet_part-add_all-requires-clause-first : goal.meet_part-add_all-requires-clause-first
+meet_part-add_all-requires-clause-first g t c =
+    let within = loads-between c.args.shapes.now c.args.bodies.now c.args.spheres.now.centers (held_by c.args.contacts.now) c.args.contacts.now.list.pairs _ _ _ _ c.requires.ready.pairs c.both_halves-touching.ensures.front in
+    λ k lt. within.each k (omega (arith, lt, within.count))
+
+pub meet_part-add_all-requires-clause-second : goal.meet_part-add_all-requires-clause-second
+meet_part-add_all-requires-clause-second g t c =
+    let first = loads-between c.args.shapes.now c.args.bodies.now c.args.spheres.now.centers (held_by c.args.contacts.now) c.args.contacts.now.list.pairs _ _ _ _ c.requires.ready.pairs c.both_halves-touching.ensures.front in
+    let within = loads-between c.args.shapes.now c.args.bodies.now c.args.spheres.now.centers (held_by c.args.contacts.now) c.args.contacts.now.list.pairs _ _ _ _ c.requires.ready.pairs c.both_halves-touching.ensures.back in
+    λ k lt. within.each k (omega (arith, lt, first.count))
+
+pub meet_part-returns-clause-met : goal.meet_part-returns-clause-met
+meet_part-returns-clause-met g t c =
+    let first = loads-between c.args.shapes.now c.args.bodies.now c.args.spheres.now.centers (held_by c.args.contacts.now) c.args.contacts.now.list.pairs _ _ _ _ c.requires.ready.pairs c.both_halves-touching.ensures.front in
+    let count : length (pairs_between c.args.from (c.args.from + (c.args.to - c.args.from) / 2) c.args.contacts.now.list.pairs) ≡ (c.args.from + (c.args.to - c.args.from) / 2) - c.args.from =
+    length-between c.args.from (c.args.from + (c.args.to - c.args.from) / 2) c.args.contacts.now.list.pairs (omega arith) (omega (arith, c.requires.order, c.requires.there)) in
+    subst (λ (qs : List Pair). HaveMet c.args.shapes.now c.args.bodies.now c.args.spheres.now.centers (held_by c.args.contacts.now) qs c.add_all.new.loads
+    (c.both_halves-touching.new.front ++ c.both_halves-touching.new.back))
+    (between-join c.args.from (c.args.from + (c.args.to - c.args.from) / 2) c.args.to c.args.contacts.now.list.pairs (omega arith) (omega (arith, c.requires.order)))
+    (HaveMet-join c.args.shapes.now c.args.bodies.now c.args.spheres.now.centers (held_by c.args.contacts.now)
+    (pairs_between c.args.from (c.args.from + (c.args.to - c.args.from) / 2) c.args.contacts.now.list.pairs) _ _ _ _ c.both_halves-touching.new.front c.both_halves-touching.new.back
+    (omega (arith, count, c.split_at_mut-front.ensures.front_len, c.both_halves-touching.ensures.front_room))
+    (omega (arith, first.count, c.add_all.ensures.added.size))
+    (λ k lt. c.add_all.ensures.added.done k (omega (arith, lt, first.count)) (omega (arith, lt, first.count)))
+    c.both_halves-touching.ensures.front c.both_halves-touching.ensures.back)

@@ -1,6 +1,6 @@
 //! The meetings of a step on a list, pair by pair.
 
-ghost use Rattle.std.specs.Prelude.{◌≡◌, ◌+◌, ◌^◌, ◌<◌, ◌≤◌, length, All, IfSome, replicate};
+ghost use Rattle.std.specs.Prelude.{◌≡◌, ◌+◌, ◌^◌, ◌<◌, ◌≤◌, true, length, All, IfSome, replicate};
 ghost use Rattle.dem_num.specs.Vectors.{widened, Within};
 ghost use Rattle.dem_model.specs.Motion.{AreInside, IsPair};
 ghost use Rattle.dem_model.specs.Step.{meeting, no_load};
@@ -17,7 +17,7 @@ use dem_hist::Contacts;
 use dem_model::{Body, Load, Pair, Steps};
 use dem_num::{Vec3, Wide3};
 use dem_shape::Shapes;
-use std::sync::ledger::Ledger;
+use std::sync::ledger::{Blank, Ledger};
 
 /// Puts what the pairs of the list come to: into `loads` the sums per clump, into `fresh` a displacement, or None, by place.
 /// It looks at those pairs alone that the marks leave, and counts a test per pair that it looks at.
@@ -53,6 +53,70 @@ pub fn meet_all<L: Ledger>(
             fresh[i as usize] = None;
         }
     }
+}
+
+/// As `meet_all`, unless that was done before, which `is_met` says.
+pub fn meet_unless<L: Ledger>(
+    is_met: bool,
+    loads: &mut [Load],
+    fresh: &mut [Option<Vec3>],
+    shapes: &Shapes,
+    spheres: &Spheres,
+    bodies: &[Body],
+    contacts: &Contacts,
+    marks: &Marks,
+    tests: &mut Steps<L>,
+)
+    requires loads { length loads.old ≡ length shapes.now.clumps }
+    requires fresh { length contacts.now.list.pairs ≤ length fresh.old }
+    requires centers { AreInside shapes.now spheres.now.centers }
+    requires sides { AreSides shapes.now bodies.now spheres.now.sides }
+    requires pairs { ArePairs shapes.now contacts.now.list.pairs }
+    requires within { All IsStored contacts.now.entries }
+    requires marks { length contacts.now.list.pairs ≤ length marks.now.may.items }
+    requires marked { AreMarked shapes.now spheres.now.centers contacts.now.list.pairs marks.now }
+    requires before { is_met ≡ true → HaveMet shapes.now bodies.now spheres.now.centers (held_by contacts.now) contacts.now.list.pairs loads.old fresh.old }
+    ensures met { HaveMet shapes.now bodies.now spheres.now.centers (held_by contacts.now) contacts.now.list.pairs loads.new fresh.new }
+    ensures room { length fresh.new ≡ length fresh.old }
+    ensures counted { tests.new ≤ tests.old + length contacts.now.list.pairs }
+{
+    if is_met {
+        return;
+    }
+    meet_all(
+        loads, fresh, shapes, spheres, bodies, contacts, marks, tests,
+    );
+}
+
+/// As `meet_all`, with a counter of tests over this blank that nobody reads.
+pub fn meet_uncounted<L: Ledger>(
+    loads: &mut [Load],
+    fresh: &mut [Option<Vec3>],
+    shapes: &Shapes,
+    spheres: &Spheres,
+    bodies: &[Body],
+    contacts: &Contacts,
+    marks: &Marks,
+    blank: Blank,
+)
+    requires name { blank.name ≡ L.name }
+    requires parts { blank.parts ≡ L.parts }
+    requires some { 0 < L.parts }
+    requires loads { length loads.old ≡ length shapes.now.clumps }
+    requires fresh { length contacts.now.list.pairs ≤ length fresh.old }
+    requires centers { AreInside shapes.now spheres.now.centers }
+    requires sides { AreSides shapes.now bodies.now spheres.now.sides }
+    requires pairs { ArePairs shapes.now contacts.now.list.pairs }
+    requires within { All IsStored contacts.now.entries }
+    requires marks { length contacts.now.list.pairs ≤ length marks.now.may.items }
+    requires marked { AreMarked shapes.now spheres.now.centers contacts.now.list.pairs marks.now }
+    ensures met { HaveMet shapes.now bodies.now spheres.now.centers (held_by contacts.now) contacts.now.list.pairs loads.new fresh.new }
+    ensures room { length fresh.new ≡ length fresh.old }
+{
+    let mut tests = Steps::<L>::new(blank);
+    meet_all(
+        loads, fresh, shapes, spheres, bodies, contacts, marks, &mut tests,
+    );
 }
 
 /// Sets each load to nothing.

@@ -1,4 +1,4 @@
-use Rattle.std.proofs.Common.{◌≡◌, ◌+◌, ◌<◌, ◌≤◌, List, length, take, sym, ap, ◌∙◌, subst, arith, Ok, Err, Option}
+use Rattle.std.proofs.Common.{true, false, ◌≡◌, ◌+◌, ◌<◌, ◌≤◌, List, length, take, sym, ap, ◌∙◌, subst, arith, Ok, Err, Option}
 use Rattle.std.specs.Option.{IsSomeAnd}
 use Rattle.std.specs.Prelude.{All}
 use Rattle.std.proofs.lemmas.List.{with_items_is}
@@ -134,6 +134,7 @@ invariant_of-self-in-Err-advance_all g c =
       },
       prepared_kept _ _ _ c.self.invariant.0.sound c.make.ensures,
       stay,
+      λ (no : false ≡ true). cc,
     )
 
 pub returns-in-Err-advance_all : goal.returns-in-Err-advance_all
@@ -195,6 +196,7 @@ invariant_of-self-in-Ok g c =
       prepared_past c.self.inside.shapes.now c.self.inside.bodies _ c.make.new.self.unpacked c.make.new.self.spheres c.self.invariant.0.sound c.make.ensures,
       subst (λ (h : HeldByPlace). StayMarked c.self.inside.shapes.now (c.self.inside.step + 1) (h.list.from + c.self.inside.drift) h.list.pairs c.renew.new.self) (sym taken)
           (marks_next c.self.inside.shapes.now c.self.inside.step (c.self.inside.contacts.list.from + c.self.inside.drift) c.self.inside.contacts.list.pairs c.renew.new.self stay),
+      λ (no : false ≡ true). cc,
     )
 
 pub returns-in-Ok : goal.returns-in-Ok
@@ -245,4 +247,5 @@ invariant_of-self g c =
       c.self.invariant.1,
       prepared_kept _ _ _ c.self.invariant.0.sound c.make.ensures,
       stay,
+      λ (no : false ≡ true). cc,
     )

@@ -11,7 +11,8 @@ ghost use Rattle.dem_step.specs.Ahead.{CanHandOn, loads_past, entry_past};
 ghost use Rattle.dem_step.specs.Contacts.{ArePairs, held_by};
 ghost use Rattle.dem_step.specs.Inside.{loads_after, displacement_of, IsSmallMeeting, HaveMet};
 
-use dem_force::{Spheres, add_push, pushed_uncounted};
+use crate::meeting::meet_pair;
+use dem_force::Spheres;
 use dem_hist::Contacts;
 use dem_list::PairList;
 use dem_model::{Body, Load, Pair};
@@ -159,29 +160,6 @@ fn entry_of(
 {
     match place {
         Some(place) => before[place as usize],
-        None => meet_new(loads, shapes, spheres, bodies, pair, held),
+        None => meet_pair(loads, shapes, spheres, bodies, pair, held),
     }
-}
-
-/// Adds what a pair does to the loads of its clumps, and gives its displacement, where it touches.
-fn meet_new(
-    loads: &mut [Load],
-    shapes: &Shapes,
-    spheres: &Spheres,
-    bodies: &[Body],
-    pair: Pair,
-    held: Option<Vec3>,
-) -> Option<Vec3>
-    requires pair { IsPair shapes.now pair }
-    requires centers { AreInside shapes.now spheres.now.centers }
-    requires sides { AreSides shapes.now bodies.now spheres.now.sides }
-    requires held { IsStored held }
-    requires loads { AreLoads shapes.now loads.old }
-    ensures loads { loads.new ≡ loads_after shapes.now loads.old (meeting shapes.now bodies.now spheres.now.centers pair held) }
-    ensures entry { result ≡ displacement_of (meeting shapes.now bodies.now spheres.now.centers pair held) }
-    ensures small { IsSmallMeeting (meeting shapes.now bodies.now spheres.now.centers pair held) }
-{
-    let push = pushed_uncounted(shapes, spheres, bodies, pair, held)?;
-    add_push(loads, shapes, pair, &push);
-    Some(push.h)
 }

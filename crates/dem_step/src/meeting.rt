@@ -12,7 +12,7 @@ ghost use Rattle.dem_step.specs.Marks.{AreMarked};
 ghost use Rattle.dem_step.specs.Inside.{loads_after, displacement_of, IsSmallMeeting, HaveMet};
 
 use crate::marks::Marks;
-use dem_force::{Spheres, add_push, pushed};
+use dem_force::{Spheres, add_push, pushed, pushed_uncounted};
 use dem_hist::Contacts;
 use dem_model::{Body, Load, Pair, Steps};
 use dem_num::{Vec3, Wide3};
@@ -151,6 +151,29 @@ fn meet<L: Ledger>(
     ensures counted { tests.new ≡ tests.old + 1 }
 {
     let push = pushed(shapes, spheres, bodies, pair, held, tests)?;
+    add_push(loads, shapes, pair, &push);
+    Some(push.h)
+}
+
+/// Adds what a pair does to the loads of its clumps, and gives its displacement, where it touches; no test is counted.
+pub fn meet_pair(
+    loads: &mut [Load],
+    shapes: &Shapes,
+    spheres: &Spheres,
+    bodies: &[Body],
+    pair: Pair,
+    held: Option<Vec3>,
+) -> Option<Vec3>
+    requires pair { IsPair shapes.now pair }
+    requires centers { AreInside shapes.now spheres.now.centers }
+    requires sides { AreSides shapes.now bodies.now spheres.now.sides }
+    requires held { IsStored held }
+    requires loads { AreLoads shapes.now loads.old }
+    ensures loads { loads.new ≡ loads_after shapes.now loads.old (meeting shapes.now bodies.now spheres.now.centers pair held) }
+    ensures entry { result ≡ displacement_of (meeting shapes.now bodies.now spheres.now.centers pair held) }
+    ensures small { IsSmallMeeting (meeting shapes.now bodies.now spheres.now.centers pair held) }
+{
+    let push = pushed_uncounted(shapes, spheres, bodies, pair, held)?;
     add_push(loads, shapes, pair, &push);
     Some(push.h)
 }

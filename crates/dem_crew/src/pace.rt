@@ -3,6 +3,9 @@
 /// Below this drift limit each list is made as soon as it may be.
 const LEAST_DRIFT: u32 = 8;
 
+/// The most sleeps between two lists, some 0.8 seconds: a run that was held up by its reader isn't to wait for a list for long.
+const MOST: u32 = 10_000;
+
 /// So many sleeps count, however few were ordered: by them the first snapshots tell how long a step takes.
 const FEW: u32 = 500;
 
@@ -67,8 +70,8 @@ fn counted(order: u32, step: u32, naps: u32) -> u32 {
     }
 }
 
-/// So many sleeps, times the steps wanted, over the steps made.
+/// So many sleeps, times the steps wanted, over the steps made; at most the most.
 fn ordered(slept: u32, wanted: u64, made: u32) -> u32 {
     let share = (slept as u64).saturating_mul(wanted) / made.max(1) as u64;
-    share.min(u32::MAX as u64) as u32
+    share.min(MOST as u64) as u32
 }

@@ -1,5 +1,5 @@
 -- What the pairs of one list came to, handed on to the next list at the same state.
-use Rattle.std.proofs.Common.{◌≡◌, ℕ, zero, suc, ◌+◌, ◌<◌, ◌≤◌, ◌⊎◌, arith, Bool, true, false, List, [], ◌∷◌, ◌++◌, length, get_or, take, drop, map, inl, inr, refl, sym, ap, ◌∙◌, subst, Option, Some, None}
+use Rattle.std.proofs.Common.{◌≡◌, ℕ, zero, suc, ◌+◌, ◌<◌, ◌≤◌, arith, Bool, true, false, List, [], ◌∷◌, ◌++◌, length, get_or, take, drop, map, inl, inr, refl, sym, ap, ◌∙◌, subst, Option, Some, None}
 use Rattle.std.specs.Prelude.{All, IfSome, MatchOption, filter, fold, is_some, not, if◌then◌else◌, slice_get, slice_set, ◌==◌, ◌+ℤ◌}
 use Rattle.std.specs.List.{Contains, cons_option, filter_map, range_with_len}
 use Rattle.std.specs.Option.{option_map}
@@ -31,11 +31,10 @@ use Rattle.dem_force.specs.Loads.{AreLoads}
 use Rattle.dem_hist.proofs.CarryFacts.{entry-here}
 use Rattle.dem_list.specs.Ascending.{IsAscending}
 use Rattle.dem_plain.proofs.HoldsFacts.{meetings-push, sums-within}
-use Rattle.dem_step.specs.Ahead.{CanHandOn, loads_past, entry_past}
+use Rattle.dem_step.specs.Ahead.{loads_past, entry_past}
 use Rattle.dem_step.specs.Inside.{loads_after, displacement_of, IsSmallMeeting, HaveMet}
-use Rattle.dem_step.specs.Stepper.{state_at}
 use Rattle.dem_step.proofs.RoomFacts.{all-read, take-next}
-use Rattle.dem_step.proofs.ListFacts.{entry-held, filter_map-filter, held_at-mapped, kept_of-take, meeting-none, meetings-agree, near-contains, none_there}
+use Rattle.dem_step.proofs.ListFacts.{entry-held, held_at-mapped, kept_of-take, meeting-none, meetings-agree, near-contains, none_there}
 use Rattle.dem_step.proofs.MetFacts.{HaveMet-more, loads_after-is, small-more}
 
 -- ---- sums in another order

@@ -1,10 +1,9 @@
 -- What a run on lists has met ahead: from the meetings, to the step, and to the next list.
-use Rattle.std.proofs.Common.{◌≡◌, ℕ, ◌+◌, ◌≤◌, Bool, true, false, List, length, refl, sym, ap, ◌∙◌, subst, Option, Some}
-use Rattle.std.specs.Prelude.{not, ◌||◌, slice_get}
+use Rattle.std.proofs.Common.{◌≡◌, ℕ, ◌+◌, ◌≤◌, Bool, true, false, List, length, refl, sym, ap, ◌∙◌, subst, Option}
 use Rattle.dem_num.specs.declared.vector.Vec3.{Vec3}
 use Rattle.dem_model.specs.SceneValue.{SceneValue}
 use Rattle.dem_model.specs.Carry.{kept_of, carried}
-use Rattle.dem_model.specs.Centers.{centers_of, touch_of}
+use Rattle.dem_model.specs.Centers.{centers_of}
 use Rattle.dem_model.specs.Near.{Covers}
 use Rattle.dem_model.specs.declared.law.Load.{Load}
 use Rattle.dem_model.specs.declared.state.Body.{Body}

@@ -4,7 +4,6 @@ use Rattle.dem_num.specs.declared.vector.Vec3.{Vec3}
 use Rattle.dem_model.specs.SceneValue.{SceneValue}
 use Rattle.dem_model.specs.Centers.{centers_of}
 use Rattle.dem_model.specs.Near.{Covers}
-use Rattle.dem_model.specs.Sound.{IsSound}
 use Rattle.dem_model.specs.Step.{Meeting}
 use Rattle.dem_model.specs.declared.law.Load.{Load}
 use Rattle.dem_model.specs.declared.state.Body.{Body}

@@ -1,7 +1,7 @@
-use Rattle.std.proofs.Common.{◌≡◌, ◌++◌, ◌∷◌, [], take, sym, ap, ◌∙◌}
+use Rattle.std.proofs.Common.{◌++◌, ◌∷◌, [], take, sym, ap, ◌∙◌}
 use Rattle.std.proofs.lemmas.Bool.{not-false}
 use Rattle.dem_list.proofs.AscendingFacts.{same_pair-equal}
-use Rattle.dem_step.proofs.RoomFacts.{take-next, take-whole}
+use Rattle.dem_step.proofs.RoomFacts.{take-next}
 use Rattle.dem_step.proofs.ahead.are_same.Goals as goal
 
 pub loop-i-preserved : goal.loop-i-preserved

@@ -20,12 +20,11 @@ impl<'s> Dyn<'s> {
     {
         self.met = false;
         self.prepared.make(self.shapes, &self.bodies);
-        let left = steps_left(self.contacts.list().from(), self.step, self.drift);
         self.marks.renew(
             self.shapes,
             &self.prepared.spheres.centers,
             self.contacts.list(),
-            left,
+            steps_left(self.contacts.list().from(), self.step, self.drift),
         );
         if let Err(OutOfMemory) = self.split.gather(self.shapes) {
             return Err(SplitStop::OutOfMemory);

@@ -17,12 +17,7 @@ fn scene(alloc: Global) -> Result<Scene, OutOfMemory> {
 
 /// The parcel, with this step and the bodies at the start.
 #[tactic(auto, using(dem_plain::proofs::RunFacts::first_sound))]
-fn filled(
-    alloc: Global,
-    shapes: &Shapes,
-    step: u32,
-    parcel: Parcel,
-) -> Result<Parcel, OutOfMemory>
+fn filled(alloc: Global, shapes: &Shapes, step: u32, parcel: Parcel) -> Result<Parcel, OutOfMemory>
     ensures { IfOk result (λ p. AreSound shapes.now p.snap.bodies) }
 {
     let scene = shapes.scene();

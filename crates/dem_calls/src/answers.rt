@@ -10,6 +10,7 @@ use dem_model::{OutOfMemory, Scene, Steps};
 use dem_shape::Shapes;
 use dem_step::Dyn;
 use std::alloc::Global;
+use std::fmt::{self, Display, Formatter};
 use std::marker::Brand;
 use std::sync::ledger::{Blank, Ledger};
 use std::thread::Threads;
@@ -24,13 +25,24 @@ const SIDES: [u32; 4] = [0, 1437, 1438, 5032];
 #[derive(Drop)]
 pub struct Answers {
     /// What bins of each side find.
-    pub finds: Vec<Found>,
+    finds: Vec<Found>,
     /// Where steps on one list lead.
-    pub stand: Stand,
+    stand: Stand,
     /// Where split steps on one list lead.
-    pub split: Stand,
+    split: Stand,
     /// What the turns of a world come to.
-    pub turns: Turned,
+    turns: Turned,
+}
+
+impl Display for Answers {
+    fn fmt<W: fmt::Write>(&self, f: &mut Formatter<W>) -> fmt::Result {
+        for found in self.finds.as_slice() {
+            writeln!(f, "{found}")?;
+        }
+        writeln!(f, "{}", self.stand)?;
+        writeln!(f, "by split steps, {}", self.split)?;
+        write!(f, "{}", self.turns)
+    }
 }
 
 /// Makes the calls on a scene.

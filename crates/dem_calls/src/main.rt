@@ -25,14 +25,7 @@ fn main(rt: HostRuntime) -> anyhow::Result<()> {
             scene.steps
         )?;
         match ask(&rt, rt.alloc(), &scene) {
-            Ok(answers) => {
-                for found in answers.finds.as_slice() {
-                    println!(rt; "{found}")?;
-                }
-                println!(rt; "{}", answers.stand)?;
-                println!(rt; "by split steps, {}", answers.split)?;
-                println!(rt; "{}", answers.turns)?;
-            }
+            Ok(answers) => println!(rt; "{answers}")?,
             Err(_) => println!(rt; "out of memory")?,
         }
     }

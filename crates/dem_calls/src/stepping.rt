@@ -6,6 +6,7 @@ ghost use Rattle.dem_step.specs.Stepper.{IsListOfRun};
 use dem_list::PairList;
 use dem_margin::build_all;
 use dem_model::{Body, Held, OutOfMemory, Steps};
+use dem_num::Vec3;
 use dem_shape::Snapshot;
 use dem_step::Dyn;
 use dem_voxel::VoxelPos;
@@ -126,19 +127,39 @@ impl Display for Stand {
             write!(f, ", its list from step {from}")?;
         }
         for body in self.bodies.as_slice() {
-            let (p, v) = (body.p, body.v);
-            write!(f, "; at {} {} {}", p.x, p.y, p.z)?;
-            write!(f, " by {} {} {}", v.x, v.y, v.z)?;
+            write_body(body, f)?;
         }
         for at in self.stored.as_slice() {
-            write!(f, "; in voxel {} at ", at.id)?;
-            write!(f, "{} {} {}", at.ox, at.oy, at.oz)?;
+            write_stored(at, f)?;
         }
         for held in self.held.as_slice() {
-            let (pair, h) = (held.pair, held.h);
-            write!(f, "; {} {} held ", pair.a, pair.b)?;
-            write!(f, "{} {} {}", h.x, h.y, h.z)?;
+            write_held(held, f)?;
         }
         Ok(())
     }
+}
+
+/// Writes where a body is, and how it moves.
+fn write_body<W: fmt::Write>(body: &Body, f: &mut Formatter<W>) -> fmt::Result {
+    f.write_str("; at ")?;
+    write_vector(body.p, f)?;
+    f.write_str(" by ")?;
+    write_vector(body.v, f)
+}
+
+/// Writes a stored position.
+fn write_stored<W: fmt::Write>(at: &VoxelPos, f: &mut Formatter<W>) -> fmt::Result {
+    write!(f, "; in voxel {} at ", at.id)?;
+    write!(f, "{} {} {}", at.ox, at.oy, at.oz)
+}
+
+/// Writes what is held of a pair.
+fn write_held<W: fmt::Write>(held: &Held, f: &mut Formatter<W>) -> fmt::Result {
+    write!(f, "; {} {} held ", held.pair.a, held.pair.b)?;
+    write_vector(held.h, f)
+}
+
+/// Writes the three numbers of a vector.
+fn write_vector<W: fmt::Write>(v: Vec3, f: &mut Formatter<W>) -> fmt::Result {
+    write!(f, "{} {} {}", v.x, v.y, v.z)
 }

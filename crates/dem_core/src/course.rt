@@ -119,7 +119,7 @@ impl<'s> Course<'s> {
         self.last.is_none() && self.run.can_step()
     }
 
-    /// Makes ahead what the next step needs of the bodies alone. The run is as it was.
+    /// Makes ahead most of the next step, while its list is waited for. The run is as it was.
     pub fn prepare(&mut self)
         ensures { self.new ≡ self.old }
     {

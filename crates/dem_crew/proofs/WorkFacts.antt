@@ -14,14 +14,13 @@ use Rattle.dem_model.specs.ExchangeKinds.{posting}
 use Rattle.dem_model.specs.Near.{near_of}
 use Rattle.dem_model.specs.Frames.{taken_text, tests_text}
 use Rattle.dem_model.specs.Output.{output_of}
-use Rattle.dem_model.specs.Plain.{first_state, plain_at, last_of}
+use Rattle.dem_model.specs.Plain.{first_state, plain_at}
 use Rattle.dem_model.specs.Step.{step_of}
-use Rattle.dem_model.specs.TakenRows.{IsLegal, tests_of}
+use Rattle.dem_model.specs.TakenRows.{IsLegal}
 use Rattle.dem_model.specs.World.{Snap, Course, is_past, may_post, may_step, first_course, after_step, stepped, with_list, row_with, rows_text, reached_text, step_text, snap_of}
 use Rattle.dem_model.specs.declared.state.End.{End}
 use Rattle.dem_model.specs.declared.state.Last.{Last}
 use Rattle.dem_model.specs.declared.state.State.{State}
-use Rattle.dem_model.specs.declared.state.TakenRow.{TakenRow}
 use Rattle.dem_list.specs.Ascending.{Pairs}
 use Rattle.dem_shape.specs.declared.snapshot.Snapshot.{Snapshot}
 use Rattle.dem_step.specs.Stepper.{state_at, IsSnapshotOfRun, IsListOfRun}
@@ -30,7 +29,7 @@ use Rattle.dem_swap.specs.Seats.{DynSeatValue}
 use Rattle.dem_swap.specs.declared.parcel.Parcel.{Parcel}
 use Rattle.dem_core.specs.Courses.{Running, IsOnCourse, MayCollect, BeginsCourse}
 use Rattle.dem_core.specs.Playing.{Plays}
-use Rattle.dem_core.specs.SoFar.{text_so_far, HasTaken, HasWritten}
+use Rattle.dem_core.specs.SoFar.{text_so_far, HasWritten}
 use Rattle.dem_core.specs.Worlds.{IsOut}
 use Rattle.dem_core.specs.declared.did.WorldStop.{WorldStop}
 use Rattle.dem_core.specs.declared.did.WorldStop.TheVariants.{WriteFault, OutOfMemory}
@@ -39,10 +38,9 @@ use Rattle.dem_core.proofs.SoFarFacts.{text-first, text-stepped, text-with_list,
 use Rattle.dem_core.proofs.SpellFacts.{legal-plays}
 use Rattle.dem_core.proofs.TakenFacts.{HasTaken-first, HasTaken-stepped, HasTaken-with_list, HasTaken-ended}
 use Rattle.dem_core.proofs.WorldFacts.{IsOut-posted, IsOut-stepped, IsOut-collect}
-use Rattle.dem_crew.specs.declared.ran.Ran.{Ran}
 use Rattle.dem_crew.specs.declared.work.Work.{Work}
 use Rattle.dem_crew.specs.Running.{HasRun}
-use Rattle.dem_crew.specs.Working.{lists_by, IsAway, IsPlaced, IsAtWork, IsKeptUp}
+use Rattle.dem_crew.specs.Working.{lists_by, IsPlaced, IsAtWork, IsKeptUp}
 
 -- what holds anyway holds on a fault
 pub on-err : {A E P : Type 0} (r : Result A E) → P → OnErr r P

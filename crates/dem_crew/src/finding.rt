@@ -6,7 +6,7 @@ ghost use Rattle.dem_model.specs.Exchange.{terms_of, IsSoundFor, IsAnswer};
 ghost use Rattle.dem_model.specs.ExchangeKinds.{HoldsNone};
 ghost use Rattle.dem_bins.specs.Bins.{IsGridOf};
 
-use crate::pace::Pace;
+use crate::pace::{Pace, is_paced};
 use crate::rest::Rest;
 use dem_bins::Grid;
 use dem_model::Steps;
@@ -75,14 +75,13 @@ fn serve_until_stop<R: Wait, G: Gate, L: Ledger>(
     ensures seat { seat.new.table ≡ swap.now }
 {
     let mut finder = Finder::<L>::new(alloc, shapes, grid, blank);
-    let mut rest = Rest::new();
+    let mut rest = Rest::new(is_paced(grid.drift()));
     for _ in rt.forever() {
         if swap.stopped(seat) {
             return;
         }
-        let has_served = finder.serve(swap, seat, gate);
-        rest.after(rt, has_served);
-        rest.nap_if(rt, finder.is_early());
+        let has_served = finder.serve(swap, seat, gate, rest.naps());
+        rest.after(rt, has_served, finder.naps());
     }
     unreachable!()
 }
@@ -107,8 +106,8 @@ impl<'a, L: Ledger> Finder<'a, L> {
         }
     }
 
-    /// Tries once to take the parcel, unless it is too soon, and if it comes, delivers it with its list; whether it came.
-    fn serve<G: Gate>(&mut self, swap: &Swap, seat: &mut KinSeat, gate: &G) -> bool
+    /// Tries once to take the parcel, where it slept as often as ordered, and if it comes, delivers it with its list; whether it came.
+    fn serve<G: Gate>(&mut self, swap: &Swap, seat: &mut KinSeat, gate: &G, naps: u32) -> bool
         requires seat { seat.old.table ≡ swap.now }
         requires terms { seat.old.view.terms ≡ Some (terms_of self.old.shapes.now self.old.grid.now.drift) }
         requires none_held { HoldsNone seat.old.view }
@@ -118,14 +117,14 @@ impl<'a, L: Ledger> Finder<'a, L> {
         ensures shapes { self.new.shapes ≡ self.old.shapes }
         ensures grid { self.new.grid ≡ self.old.grid }
     {
-        if self.pace.waits() {
+        if naps < self.pace.naps() {
             return false;
         }
         let nth = self.served.saturating_add(1);
         gate.pass(Point::Take, nth);
         match swap.take(seat) {
             Some(parcel) => {
-                self.pace.after(self.grid.drift(), parcel.snap.step);
+                self.pace.after(self.grid.drift(), parcel.snap.step, naps);
                 let answered = self.answer(parcel);
                 gate.pass(Point::Deliver, nth);
                 swap.deliver(seat, answered);
@@ -136,9 +135,9 @@ impl<'a, L: Ledger> Finder<'a, L> {
         }
     }
 
-    /// Whether it was too soon for the next parcel.
-    fn is_early(&self) -> bool {
-        self.pace.is_early()
+    /// How often it is to sleep before it tries to take the next parcel.
+    fn naps(&self) -> u32 {
+        self.pace.naps()
     }
 
     /// The parcel with the near pairs of its snapshot; or refused.

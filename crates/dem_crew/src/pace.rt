@@ -1,56 +1,77 @@
-//! How long kinematics lets a processor be between two lists, so that it doesn't make more of them than a run needs.
+//! How often kinematics sleeps between two lists, so that it doesn't make more of them than a run needs.
 
-/// The greatest number of sleeps between two lists.
-const MAX_NAPS: u32 = 100_000;
+/// Below this drift limit each list is made as soon as it may be.
+const LEAST_DRIFT: u32 = 8;
 
-/// The step of the snapshot served last, the sleeps behind it, how many of them are left, and whether one was just counted.
+/// The most sleeps between two lists, some 0.8 seconds: a run that was held up by its reader isn't to wait for a list for long.
+const MOST: u32 = 10_000;
+
+/// So many sleeps count, however few were ordered: by them the first snapshots tell how long a step takes.
+const FEW: u32 = 500;
+
+/// The steps of the last two snapshots that kinematics served, how often it slept before each of them, and how often it is to sleep
+/// before the next.
 #[derive(Drop)]
 pub struct Pace {
-    last: u32,
-    naps: u32,
-    left: u32,
-    early: bool,
+    steps: (u32, u32),
+    naps: (u32, u32),
+    next: u32,
 }
 
 impl Pace {
-    /// No snapshot served yet, and no sleep.
+    /// No snapshot served yet, and no sleep ordered.
     pub fn new() -> Pace {
         Pace {
-            last: 0,
-            naps: 0,
-            left: 0,
-            early: false,
+            steps: (0, 0),
+            naps: (0, 0),
+            next: 0,
         }
     }
 
-    /// Whether it is too soon to look for the next snapshot; one sleep is counted then.
-    pub fn waits(&mut self) -> bool {
-        self.early = self.left > 0;
-        self.left = self.left.saturating_sub(1);
-        self.early
+    /// How often kinematics is to sleep before it looks for the next snapshot.
+    pub fn naps(&self) -> u32 {
+        self.next
     }
 
-    /// Whether it was too soon when it was asked last.
-    pub fn is_early(&self) -> bool {
-        self.early
-    }
-
-    /// Sets how many sleeps follow this snapshot: more, where the run made fewer steps since the last one than a quarter of the drift
-    /// limit, and else half as many. A list is then in use long before the one before it is too old. Below a limit of 8 there is none.
-    pub fn after(&mut self, drift: u32, step: u32) {
-        let made = step.saturating_sub(self.last);
-        self.naps = if made < drift / 4 {
-            longer(self.naps)
-        } else {
-            self.naps / 2
-        };
-        self.left = self.naps;
-        self.last = step;
+    /// Takes note of a snapshot that is served after so many sleeps, and orders those before the next. The run made the steps from the
+    /// last but one to this one after the sleeps before the last two; these are ordered anew, times the steps wanted over the steps made.
+    pub fn after(&mut self, drift: u32, step: u32, naps: u32) {
+        let made = step.saturating_sub(self.steps.0);
+        let slept = self.naps.0.saturating_add(self.naps.1);
+        let counted = counted(self.next, step, naps);
+        self.next = ordered(slept, wanted(drift), made);
+        self.steps = (self.steps.1, step);
+        self.naps = (self.naps.1, counted);
     }
 }
 
-/// A quarter more sleeps, and one.
-fn longer(naps: u32) -> u32 {
-    let more = naps.saturating_add(naps / 4).saturating_add(1);
-    if more < MAX_NAPS { more } else { MAX_NAPS }
+/// Whether lists come at a pace at this drift limit, and not as fast as they can be made.
+pub fn is_paced(drift: u32) -> bool {
+    LEAST_DRIFT <= drift
+}
+
+/// How many steps a run is to make from one snapshot to the next. A list is one step less old when it comes into use, and twice as old
+/// and a step when the next one does: that leaves a fifth of the drift limit to spare.
+fn wanted(drift: u32) -> u64 {
+    if is_paced(drift) {
+        drift as u64 * 2 / 5 + 1
+    } else {
+        0
+    }
+}
+
+/// How many of the sleeps count: none before the first state, after which no step was made, and not many more than were ordered, since
+/// it was the run then that was held up.
+fn counted(order: u32, step: u32, naps: u32) -> u32 {
+    if step == 0 {
+        0
+    } else {
+        naps.min(order.saturating_mul(2).saturating_add(FEW))
+    }
+}
+
+/// So many sleeps, times the steps wanted, over the steps made; at most the most.
+fn ordered(slept: u32, wanted: u64, made: u32) -> u32 {
+    let share = (slept as u64).saturating_mul(wanted) / made.max(1) as u64;
+    share.min(MOST as u64) as u32
 }

@@ -9,42 +9,48 @@ use std::time::Duration;
 /// How many pauses in a row only slow the processor down.
 const SPINS: u32 = 200;
 
-/// How many pauses in a row don't sleep; those that let other threads run take some 0.1 ms where none wants to. A thread that looks
-/// again and again slows the other one where two processors of the machine are halves of one.
-const WAKES: u32 = 600;
+/// How many pauses in a row don't sleep; those that let other threads run take some 10 ms where none wants to. To wake up may take
+/// longer than a step.
+const WAKES: u32 = 40_000;
 
 /// How long a sleep takes at least, in microseconds.
 const NAP: u64 = 20;
 
-/// The pauses of one side since it last had something to do.
+/// The pauses of one side since it last had something to do, how many of them it slept, and how many it doesn't.
 #[derive(Drop)]
 pub struct Rest {
     pauses: u32,
+    naps: u32,
+    wakes: u32,
     bed: AtomicU64,
 }
 
 impl Rest {
-    /// No pause yet.
-    pub fn new() -> Rest {
+    /// No pause yet. A side that sleeps soon lets the other one have the processor, where both are halves of one.
+    pub fn new(sleeps_soon: bool) -> Rest {
         Rest {
             pauses: 0,
+            naps: 0,
+            wakes: if sleeps_soon { SPINS } else { WAKES },
             bed: AtomicU64::new(0),
         }
     }
 
-    /// Pauses once more where there was nothing to do, and else begins anew.
-    pub fn after<R: Wait>(&mut self, rt: &R, was_busy: bool) {
-        if was_busy {
-            self.pauses = 0;
-        } else {
-            self.pause(rt);
-        }
+    /// How often it slept since it last had something to do.
+    pub fn naps(&self) -> u32 {
+        self.naps
     }
 
-    /// Sleeps once, where it is too soon for more work.
-    pub fn nap_if<R: Wait>(&mut self, rt: &R, is_early: bool) {
-        if is_early {
-            self.bed.park_timeout(rt, 0, Duration::from_micros(NAP));
+    /// Begins anew where there was something to do. Else it sleeps, where more sleeps are ordered than it made, and pauses once more
+    /// where not.
+    pub fn after<R: Wait>(&mut self, rt: &R, was_busy: bool, order: u32) {
+        if was_busy {
+            self.pauses = 0;
+            self.naps = 0;
+        } else if self.naps < order {
+            self.nap(rt);
+        } else {
+            self.pause(rt);
         }
     }
 
@@ -52,11 +58,17 @@ impl Rest {
     fn pause<R: Wait>(&mut self, rt: &R) {
         if self.pauses < SPINS {
             spin_loop();
-        } else if self.pauses < WAKES {
+        } else if self.pauses < self.wakes {
             yield_now();
         } else {
-            self.bed.park_timeout(rt, 0, Duration::from_micros(NAP));
+            self.nap(rt);
         }
         self.pauses = self.pauses.saturating_add(1);
+    }
+
+    /// Sleeps once.
+    fn nap<R: Wait>(&mut self, rt: &R) {
+        self.bed.park_timeout(rt, 0, Duration::from_micros(NAP));
+        self.naps = self.naps.saturating_add(1);
     }
 }

@@ -102,13 +102,13 @@ impl<'s> Work<'s> {
         ensures faults { HasFaults (K.faults out.old) (K.faults out.new) (N.faults note.old) (N.faults note.new) result }
         ensures counted { tests.new + self.old.course.course.tests ≤ tests.old + self.new.course.course.tests }
     {
-        let mut rest = Rest::new();
+        let mut rest = Rest::new(false);
         for _ in rt.forever() {
             if let Some(last) = self.course.last() {
                 return Ok(last);
             }
             let was_busy = self.turn(rt, split, swap, seat, out, note, gate, tests)?;
-            rest.after(rt, was_busy);
+            rest.after(rt, was_busy, 0);
         }
         unreachable!()
     }

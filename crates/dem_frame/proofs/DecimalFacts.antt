@@ -1,5 +1,5 @@
 -- The decimal form of a number reads back, and calls for no quotes.
-use Rattle.std.proofs.Common.{◌≡◌, ℕ, ◌+◌, ◌^◌, ◌<◌, ◌≤◌, ℤ, pos, negsuc, neg_ℤ, List, [], ◌∷◌, ◌++◌, map, Bool, false, true, Some, FitsSigned, w64, suc, sym, ap, ◌∙◌, refl, arith}
+use Rattle.std.proofs.Common.{◌≡◌, ℕ, ℤ, pos, negsuc, neg_ℤ, List, [], ◌∷◌, map, false, Some, FitsSigned, w64, suc, ap, ◌∙◌, refl, arith}
 use Rattle.std.specs.Prelude.{◌==◌}
 use Rattle.std.specs.Fmt.{signed_decimal, decimal}
 use Rattle.std.specs.List.{AllByRecursion, list_any}

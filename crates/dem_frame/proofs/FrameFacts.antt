@@ -1,14 +1,17 @@
 -- The state that a text is as a frame, by its records.
-use Rattle.std.proofs.Common.{◌≡◌, ℕ, ◌+◌, ◌≤◌, List, [], ◌∷◌, ◌++◌, length, Option, Some, None, Result, Ok, Err, sym, ap, subst, ◌∙◌, refl, append_assoc, append-nil, option_and_then, arith}
+use Rattle.std.proofs.Common.{◌≡◌, ℕ, ◌+◌, ◌≤◌, List, [], ◌∷◌, ◌++◌, length, Option, Some, None, Result, Err, sym, ap, ◌∙◌, refl, append_assoc, append-nil, option_and_then, arith}
 use Rattle.std.specs.Prelude.{ok_or}
 use Rattle.std.specs.Option.{option_map_or}
 use Rattle.std.proofs.lemmas.Option.{same_Some, none-some}
-use Rattle.csv.specs.Reading.{default_config, records, strip_bom}
+use Rattle.csv.specs.Reading.{AreRecords, Reached, default_config, records, strip_bom}
+use Rattle.csv.specs.declared.parser.State.{State as ParserState}
+use Rattle.csv.specs.declared.parser.State.TheVariants as st
 use Rattle.dem_model.specs.declared.state.State.{State}
-use Rattle.dem_frame.specs.PartialFrames.{nothing_read, read_on, with_record, whole_frame, frame_from, frame_of, Gives, ReadsFrame}
+use Rattle.dem_frame.specs.PartialFrames.{nothing_read, with_record, whole_frame, frame_from, frame_of}
 use Rattle.dem_frame.specs.declared.partial.PartialFrame.{PartialFrame}
 use Rattle.dem_frame.specs.declared.partial.FrameFault.{FrameFault}
-use Rattle.dem_frame.specs.declared.partial.FrameFault.TheVariants.{Bad, Short, OutOfMemory}
+use Rattle.dem_frame.specs.declared.partial.FrameFault.TheVariants.{Bad, Short}
+use Rattle.dem_frame.proofs.PartialFacts.{read_on}
 use Rattle.dem_frame.proofs.RecordFacts.{records-all, records-begin, records-few, strip-few}
 
 -- the same of the records behind the first
@@ -51,24 +54,22 @@ frame_from-bad clumps last rows more fields read bad =
     ∙ ap (λ (o : Option PartialFrame). option_map_or (λ next. frame_from clumps (0 + length rows + 1) next more) o (Err (Bad (0 + length rows + 1)))) bad
     ∙ ap (λ (k : ℕ). Err (Bad k)) none
 
--- what is read by the records of a text is what its frame is
-pub frame_value : (clumps : ℕ) (text : List ℕ) (result : Result State FrameFault) → ReadsFrame clumps text result → Gives result (frame_of clumps text)
+-- all records of a text were read
+pub frame-all : (clumps : ℕ) (text : List ℕ) (last : PartialFrame) (rows : List (List (List ℕ))) → AreRecords default_config st.StartRecord (strip_bom text) rows
+    → read_on clumps nothing_read rows ≡ Some last → frame_of clumps text ≡ ok_or (whole_frame clumps last) (Short (length rows))
 unfolding frame_of
-frame_value clumps text (Ok s) reads =
-    ap (λ (l : List (List (List ℕ))). frame_from clumps 0 nothing_read l) (records-all (strip_bom text) reads.0 reads.1)
-    ∙ frame_from-all clumps reads.2 reads.0 reads.3
-    ∙ ap (λ (o : Option State). ok_or o (Short (length reads.0))) reads.4
-frame_value clumps text (Err (Bad row)) reads =
-    let begins = records-begin (strip_bom text) (reads.0 ++ reads.1 ∷ []) reads.3.0 reads.3.1 reads.3.2 in
-    ap (λ (l : List (List (List ℕ))). frame_from clumps 0 nothing_read l) (begins.same ∙ append_assoc reads.0 (reads.1 ∷ []) begins.more)
-    ∙ frame_from-bad clumps reads.2 reads.0 begins.more reads.1 reads.4 reads.5
-    ∙ ap (λ (k : ℕ). Err (Bad k)) (sym reads.6)
-frame_value clumps text (Err (Short n)) reads =
-    ap (λ (l : List (List (List ℕ))). frame_from clumps 0 nothing_read l) (records-all (strip_bom text) reads.0 reads.1)
-    ∙ frame_from-all clumps reads.2 reads.0 reads.3
-    ∙ ap (λ (o : Option State). ok_or o (Short (length reads.0))) reads.4
-    ∙ ap (λ (k : ℕ). Err (Short k)) (sym reads.5)
-frame_value clumps text (Err OutOfMemory) reads = tt
+frame-all clumps text last rows all read =
+    ap (λ (l : List (List (List ℕ))). frame_from clumps 0 nothing_read l) (records-all (strip_bom text) rows all) ∙ frame_from-all clumps last rows read
+
+-- a record of a text is the first that no good frame has there
+pub frame-bad : (clumps : ℕ) (text : List ℕ) (last : PartialFrame) (rows : List (List (List ℕ))) (fields : List (List ℕ)) (s : ParserState) (ys : List ℕ)
+    → Reached default_config st.StartRecord (strip_bom text) (rows ++ fields ∷ []) s ys → read_on clumps nothing_read rows ≡ Some last → with_record clumps last fields ≡ None
+    → frame_of clumps text ≡ Err (Bad (length rows + 1))
+unfolding frame_of
+frame-bad clumps text last rows fields s ys reached read bad =
+    let begins = records-begin (strip_bom text) (rows ++ fields ∷ []) s ys reached in
+    ap (λ (l : List (List (List ℕ))). frame_from clumps 0 nothing_read l) (begins.same ∙ append_assoc rows (fields ∷ []) begins.more)
+    ∙ frame_from-bad clumps last rows begins.more fields read bad
 
 -- the records of a text, of which there are no more than bytes
 pub record HasRows (clumps : ℕ) (text : List ℕ) : Type 0 where

@@ -1,11 +1,11 @@
 -- What each frame that is read keeps: a body per clump, pairs that ascend, displacements within their range, and few rows.
-use Rattle.std.proofs.Common.{◌≡◌, ◌∙◌, ℕ, ◌+◌, ◌-◌, ◌^◌, ◌<◌, ◌≤◌, Bool, true, false, ℤ, pos, List, [], ◌∷◌, ◌++◌, codes, length, length-append, get_or, Option, Some, None, Result, Ok, Err, All, if◌then◌else◌, inl, inr, ◌⊎◌, sym, ap, refl, subst, arith, unsigned_abs, option_and_then}
-use Rattle.std.specs.Prelude.{IfOk, IfSome, ◌&&◌, ◌||◌, ◌==◌, nat_lt, nat_le, ok_or, option_map, slice_get}
+use Rattle.std.proofs.Common.{◌≡◌, ◌∙◌, ℕ, ◌+◌, ◌-◌, ◌^◌, ◌<◌, ◌≤◌, Bool, true, false, ℤ, pos, List, [], ◌∷◌, ◌++◌, codes, length, get_or, Option, Some, None, Err, All, if◌then◌else◌, inl, inr, ◌⊎◌, sym, ap, refl, subst, arith, unsigned_abs, option_and_then}
+use Rattle.std.specs.Prelude.{IfOk, IfSome, ◌&&◌, nat_lt, nat_le, ok_or, option_map, slice_get}
 use Rattle.std.specs.Cmp.{IsTotalOrder}
 use Rattle.std.specs.List.Sorted.{IsStrictlySortedBy}
 use Rattle.std.specs.Option.{option_map_or}
 use Rattle.std.specs.declared.cmp.Ordering.TheVariants.{Less}
-use Rattle.std.proofs.lemmas.Bool.{cases_lt, and_parts, leb-true, ltb-true, ltb-false}
+use Rattle.std.proofs.lemmas.Bool.{cases_lt, and_parts, ltb-true, ltb-false}
 use Rattle.std.proofs.lemmas.Bool.Decides.{nat_tests}
 use Rattle.std.proofs.lemmas.Cmp.{on_total, then_total, nat_cmp_total}
 use Rattle.std.proofs.lemmas.List.{get_or_append_left, get_or_push, length_push, map_push, length-map, get_or-map}

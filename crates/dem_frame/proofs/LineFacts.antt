@@ -1,13 +1,11 @@
--- A row is one record, and a text of rows has no other records.
-use Rattle.std.proofs.Common.{◌≡◌, ℕ, ℤ, List, [], ◌∷◌, ◌++◌, codes, map, false, Some, None, FitsSigned, w64, sym, ap, subst, ◌∙◌, refl, append_assoc, append-nil}
+-- A row is one record, and the lines of a text come one after the other.
+use Rattle.std.proofs.Common.{◌≡◌, ℕ, ℤ, List, [], ◌∷◌, ◌++◌, map, false, Some, None, FitsSigned, w64, refl}
 use Rattle.std.specs.Fmt.{signed_decimal}
 use Rattle.std.specs.List.{AllByRecursion, list_any, flat_map}
-use Rattle.std.proofs.lemmas.Option.{same_Some}
-use Rattle.csv.specs.Machine.{Read, next_record}
-use Rattle.csv.specs.Reading.{AreRecords, Reached, default_config}
+use Rattle.csv.specs.Machine.{next_record}
+use Rattle.csv.specs.Reading.{default_config}
 use Rattle.csv.specs.Writing.{default_writer, needs_byte, fields_text, is_blank}
 use Rattle.csv.specs.Writing as csv
-use Rattle.csv.specs.declared.parser.State.{State}
 use Rattle.csv.specs.declared.parser.State.TheVariants as st
 use Rattle.csv.proofs.RoundTrip.{read-write-many}
 use Rattle.dem_model.specs.Frames.{number_text, row_text}
@@ -56,30 +54,3 @@ Lines-none = refl
 pub no_record : next_record default_config st.StartRecord [] [] [] ≡ None
 unfolding next_record
 no_record = refl
-
--- what was read of a text of lines are the first of its lines
-pub lines_before : (rows all : List (List (List ℕ))) (text ys : List ℕ) (s : State) → Lines text all → Reached default_config st.StartRecord text rows s ys
-    → (more : List (List (List ℕ))) × (all ≡ rows ++ more) × (s ≡ st.StartRecord) × Lines ys more
-unfolding Lines Reached
-lines_before [] all text ys s lines read = (all, refl, sym read.0, subst (λ (t : List ℕ). Lines t all) read.1 lines)
-lines_before (r ∷ rs) [] text ys s lines read =
-    let e = rw lines at read.1 in
-    let none : next_record default_config st.StartRecord [] [] [] ≡ None = no_record in cc
-lines_before (r ∷ rs) (a ∷ behind) text ys s lines read =
-    let same : read.0 ≡ (a, st.StartRecord, lines.0) = same_Some read.0 (a, st.StartRecord, lines.0) (sym read.1 ∙ lines.1) in
-    let first : r ≡ a = read.2 ∙ ap (λ (p : Read). p.0) same in
-    let rest = lines_before rs behind lines.0 ys s lines.2 (subst (λ (p : Read). Reached default_config p.1 p.2 rs s ys) same read.3) in
-    (rest.0, rw first (ap (λ (l : List (List (List ℕ))). a ∷ l) rest.1), rest.2, rest.3)
-
--- at the end no line is left
-pub lines_end : (rows : List (List (List ℕ))) (text : List ℕ) → Lines text rows → next_record default_config st.StartRecord [] [] text ≡ None → rows ≡ []
-unfolding Lines
-lines_end [] text lines ends = refl
-lines_end (r ∷ rs) text lines ends = let e = sym lines.1 ∙ ends in cc
-
--- the records of a text of lines are its lines
-pub lines_all : (rows all : List (List (List ℕ))) (text : List ℕ) → Lines text all → AreRecords default_config st.StartRecord text rows → all ≡ rows
-lines_all rows all text lines read =
-    let frame = lines_before rows all text read.1 read.0 lines read.2 in
-    let none = lines_end frame.0 read.1 frame.3 (rw frame.2 at read.3) in
-    frame.1 ∙ ap (λ (l : List (List (List ℕ))). rows ++ l) none ∙ append-nil rows

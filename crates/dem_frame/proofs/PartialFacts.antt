@@ -1,8 +1,13 @@
 -- Records read one after the other.
 use Rattle.std.proofs.Common.{◌≡◌, ℕ, List, [], ◌∷◌, ◌++◌, Option, Some, None, refl, option_and_then}
 use Rattle.std.proofs.lemmas.Option.{same_Some}
-use Rattle.dem_frame.specs.PartialFrames.{with_record, read_on}
+use Rattle.dem_frame.specs.PartialFrames.{with_record}
 use Rattle.dem_frame.specs.declared.partial.PartialFrame.{PartialFrame}
+
+-- what was read of these records, from what was read before
+unfoldable pub read_on : ℕ → PartialFrame → List (List (List ℕ)) → Option PartialFrame
+read_on clumps frame [] = Some frame
+read_on clumps frame (row ∷ rows) = option_and_then (λ next. read_on clumps next rows) (with_record clumps frame row)
 
 -- the same of the records behind the first
 read_on-behind : (clumps : ℕ) (frame next : PartialFrame) (rows more : List (List (List ℕ))) (o : Option PartialFrame)

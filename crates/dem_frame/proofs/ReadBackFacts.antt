@@ -1,24 +1,24 @@
 -- The frame of a state reads back as that state.
-use Rattle.std.proofs.Common.{◌≡◌, ℕ, ◌+◌, ◌-◌, ◌<◌, ◌≤◌, ◌^◌, All, pos, List, [], ◌∷◌, ◌++◌, codes, length, length-append, get_or, true, false, Option, Some, None, Result, Ok, Err, suc, zero, sym, ap, subst, ◌∙◌, refl, append_assoc, append-nil, arith, option_and_then}
-use Rattle.std.specs.Prelude.{slice_get}
+use Rattle.std.proofs.Common.{◌≡◌, ℕ, ◌+◌, ◌-◌, ◌<◌, ◌≤◌, All, pos, List, [], ◌∷◌, ◌++◌, codes, length, length-append, true, Option, Some, Result, Ok, ap, subst, ◌∙◌, refl, append_assoc, append-nil, arith}
+use Rattle.std.specs.Prelude.{ok_or}
 use Rattle.std.proofs.lemmas.Bool.{lt-ltb, le-ltb}
-use Rattle.std.proofs.lemmas.Option.{slice_get-get_or, same_Some}
+use Rattle.std.proofs.lemmas.Option.{slice_get-get_or}
 use Rattle.std.proofs.Math.Seq.{get_or-append_seam}
-use Rattle.dem_num.specs.Vectors.{widened, Within}
-use Rattle.csv.specs.Reading.{AreRecords, Reached, default_config, strip_bom}
+use Rattle.csv.specs.Reading.{Reached, default_config, strip_bom}
 use Rattle.csv.specs.declared.parser.State.TheVariants as st
 use Rattle.dem_model.specs.Frames.{row_text, head_text, clump_text, clumps_text, pair_text, pairs_text, state_text}
 use Rattle.dem_model.specs.declared.state.Body.{Body}
 use Rattle.dem_model.specs.declared.state.Held.{Held}
 use Rattle.dem_model.specs.declared.state.State.{State}
 use Rattle.dem_frame.specs.Records.{continues}
-use Rattle.dem_frame.specs.PartialFrames.{nothing_read, read_on, with_record, with_head, with_body, last_held, whole_frame, frame_of, ReadsFrame}
-use Rattle.dem_frame.specs.ReadBack.{FitEach, BodyFits, body_numbers, IsOrdered, IsStored, Ascends, IsWritable, GivesState, ReadsBack}
+use Rattle.dem_frame.specs.PartialFrames.{nothing_read, with_record, with_head, with_body, last_held, whole_frame, frame_of, Gives}
+use Rattle.dem_frame.specs.ReadBack.{BodyFits, body_numbers, IsOrdered, IsStored, Ascends, IsWritable, ReadsBack}
 use Rattle.dem_frame.specs.declared.partial.PartialFrame.{PartialFrame}
 use Rattle.dem_frame.specs.declared.partial.FrameFault.{FrameFault}
-use Rattle.dem_frame.specs.declared.partial.FrameFault.TheVariants.{Bad, Short, OutOfMemory}
-use Rattle.dem_frame.proofs.FrameFacts.{frame_value}
-use Rattle.dem_frame.proofs.LineFacts.{Lines, Lines-row, Lines-none, lines_before, lines_all, no_record}
+use Rattle.dem_frame.specs.declared.partial.FrameFault.TheVariants.{Short}
+use Rattle.dem_frame.proofs.PartialFacts.{read_on}
+use Rattle.dem_frame.proofs.FrameFacts.{frame-all}
+use Rattle.dem_frame.proofs.LineFacts.{Lines, Lines-row, Lines-none, no_record}
 use Rattle.dem_frame.proofs.ReadOnFacts.{fits_small, all_first, all_behind, head_fields, clump_fields, pair_fields, pair_fit, head_reads, clump_reads, pair_reads}
 
 -- ---- the records of a state
@@ -131,51 +131,6 @@ whole_state s clumps all = rw (le-ltb (length s.bodies) clumps (omega arith)) re
 
 -- ---- the frame as a whole
 
--- the records behind those that were read
-read_on-behind : (clumps : ℕ) (o : Option PartialFrame) (rows more : List (List (List ℕ))) → ((n : PartialFrame) → read_on clumps n (rows ++ more) ≡ option_and_then (λ m. read_on clumps m more) (read_on clumps n rows))
-    → option_and_then (λ n. read_on clumps n (rows ++ more)) o ≡ option_and_then (λ m. read_on clumps m more) (option_and_then (λ n. read_on clumps n rows) o)
-read_on-behind clumps None rows more each = refl
-read_on-behind clumps (Some n) rows more each = each n
-
-read_on-append : (clumps : ℕ) (frame : PartialFrame) (rows more : List (List (List ℕ))) → read_on clumps frame (rows ++ more) ≡ option_and_then (λ m. read_on clumps m more) (read_on clumps frame rows)
-unfolding read_on
-read_on-append clumps frame [] more = refl
-read_on-append clumps frame (row ∷ rows) more = read_on-behind clumps (with_record clumps frame row) rows more (λ n. read_on-append clumps n rows more)
-
--- where all records are read, none of them is bad
-none_bad : (clumps : ℕ) (first frame whole : PartialFrame) (rows more : List (List (List ℕ))) (fields : List (List ℕ)) → read_on clumps first (rows ++ (fields ∷ more)) ≡ Some whole
-    → read_on clumps first rows ≡ Some frame → with_record clumps frame fields ≡ None → ⊥
-unfolding read_on
-none_bad clumps first frame whole rows more fields all before bad =
-    let e = sym all ∙ read_on-append clumps first rows (fields ∷ more) in
-    let none = rw (before, bad) at e in cc
-
--- what reading the frame of a state gives
-gives_state : (s : State) (text : List ℕ) (clumps : ℕ) (result : Result State FrameFault) → IsWritable s → text ≡ state_text s → clumps ≡ length s.bodies
-    → ReadsFrame clumps text result → GivesState s result
-gives_state s text clumps (Ok read) is same all reads =
-    let lines = lines_all reads.0 (state_rows s) (state_text s) (lines_state s is) (rw (same, no_mark s) at reads.1) in
-    let parts = rw (← lines) at reads.3 in
-    let frame : reads.2 ≡ read_so_far s.step s.bodies s.held = same_Some reads.2 (read_so_far s.step s.bodies s.held) (sym parts ∙ state_reads s clumps is all) in
-    same_Some read s (sym reads.4 ∙ ap (λ (f : PartialFrame). whole_frame clumps f) frame ∙ whole_state s clumps all)
-gives_state s text clumps (Err (Bad row)) is same all reads =
-    let reached = rw (same, no_mark s) at reads.3.2 in
-    let lines = lines_before (reads.0 ++ reads.1 ∷ []) (state_rows s) (state_text s) reads.3.1 reads.3.0 (lines_state s is) reached in
-    let rows : state_rows s ≡ reads.0 ++ (reads.1 ∷ lines.0) = lines.1 ∙ append_assoc reads.0 (reads.1 ∷ []) lines.0 in
-    none_bad clumps nothing_read reads.2 (read_so_far s.step s.bodies s.held) reads.0 lines.0 reads.1 (rw rows at (state_reads s clumps is all)) reads.4 reads.5
-gives_state s text clumps (Err (Short n)) is same all reads =
-    let lines = lines_all reads.0 (state_rows s) (state_text s) (lines_state s is) (rw (same, no_mark s) at reads.1) in
-    let parts = rw (← lines) at reads.3 in
-    let frame : reads.2 ≡ read_so_far s.step s.bodies s.held = same_Some reads.2 (read_so_far s.step s.bodies s.held) (sym parts ∙ state_reads s clumps is all) in
-    let none = sym reads.4 ∙ ap (λ (f : PartialFrame). whole_frame clumps f) frame ∙ whole_state s clumps all in cc
-gives_state s text clumps (Err OutOfMemory) is same all reads = tt
-
--- what is read by the records of a text reads the frame of a state back as that state
-pub reads_back : (clumps : ℕ) (text : List ℕ) (result : Result State FrameFault) → ReadsFrame clumps text result → ReadsBack clumps text result
-reads_back clumps text result reads s is same all = gives_state s text clumps result is same all reads
-
--- ---- the text of a state, as a frame
-
 -- its lines are reached one after the other
 lines_reached : (text : List ℕ) (rows : List (List (List ℕ))) → Lines text rows → Reached default_config st.StartRecord text rows st.StartRecord []
 unfolding Lines Reached
@@ -186,5 +141,10 @@ lines_reached text (row ∷ rows) lines = ((row, st.StartRecord, lines.0), lines
 pub state_frame : (s : State) (clumps : ℕ) → IsWritable s → clumps ≡ length s.bodies → frame_of clumps (state_text s) ≡ Ok s
 state_frame s clumps is all =
     let reached : Reached default_config st.StartRecord (strip_bom (state_text s)) (state_rows s) st.StartRecord [] = rw (no_mark s) (lines_reached (state_text s) (state_rows s) (lines_state s is)) in
-    frame_value clumps (state_text s) (Ok s)
-    (state_rows s, (st.StartRecord, [], reached, no_record), read_so_far s.step s.bodies s.held, state_reads s clumps is all, whole_state s clumps all)
+    frame-all clumps (state_text s) (read_so_far s.step s.bodies s.held) (state_rows s) (st.StartRecord, [], reached, no_record) (state_reads s clumps is all)
+    ∙ ap (λ (o : Option State). ok_or o (Short (length (state_rows s)))) (whole_state s clumps all)
+
+-- what is read is the frame of the text, so the frame of a state reads back as that state
+pub reads_back : (clumps : ℕ) (text : List ℕ) (result : Result State FrameFault) → Gives result (frame_of clumps text) → ReadsBack clumps text result
+reads_back clumps text result gives s is same all =
+    subst (λ (r : Result State FrameFault). Gives result r) (ap (frame_of clumps) same ∙ state_frame s clumps is all) gives

@@ -1,19 +1,13 @@
 -- The records of a state's frame, and what they read as.
-use Rattle.std.proofs.Common.{◌≡◌, ℕ, ◌+◌, ◌-◌, ◌<◌, ◌≤◌, ◌^◌, All, ℤ, pos, negsuc, List, [], ◌∷◌, ◌++◌, codes, length, length-append, get_or, map, true, false, Option, Some, None, FitsSigned, w64, suc, zero, sym, ap, subst, ◌∙◌, refl, append_assoc, append-nil, arith, option_and_then, unsigned_abs}
-use Rattle.std.specs.Prelude.{◌==◌, ◌&&◌, nat_lt, nat_le, slice_get}
-use Rattle.std.specs.Fmt.{signed_decimal}
-use Rattle.std.proofs.lemmas.Bool.{lt-ltb, le-ltb, le-leb, eq-eqb}
-use Rattle.std.proofs.lemmas.Option.{slice_get-get_or}
-use Rattle.std.proofs.Math.Seq.{get_or-append_seam}
+use Rattle.std.proofs.Common.{◌≡◌, ℕ, ◌<◌, ◌≤◌, ◌^◌, All, ℤ, pos, negsuc, List, [], ◌∷◌, codes, true, Option, Some, FitsSigned, w64, suc, zero, refl, arith, unsigned_abs}
+use Rattle.std.proofs.lemmas.Bool.{lt-ltb, le-leb, eq-eqb}
 use Rattle.dem_num.specs.declared.vector.Vec3.{Vec3}
 use Rattle.dem_num.specs.Vectors.{widened, Within}
 use Rattle.dem_model.specs.declared.state.Body.{Body}
 use Rattle.dem_model.specs.declared.state.Held.{Held}
 use Rattle.dem_frame.specs.Records.{row_of, is_row, whole_of, top, head_of, clump_of, body_of_clump, body_of, pair_of, held_of, held_from, is_small, continues}
 use Rattle.csv.specs.Records.{field_at}
-use Rattle.dem_frame.specs.PartialFrames.{read_on, with_record, with_head, with_body, last_held}
-use Rattle.dem_frame.specs.ReadBack.{FitEach, BodyFits, body_numbers, IsOrdered, IsStored, Ascends}
-use Rattle.dem_frame.specs.declared.partial.PartialFrame.{PartialFrame}
+use Rattle.dem_frame.specs.ReadBack.{FitEach, BodyFits, body_numbers, IsOrdered, IsStored}
 use Rattle.dem_frame.proofs.DecimalFacts.{numbers_of-decimals}
 use Rattle.dem_frame.proofs.LineFacts.{row_fields}
 

@@ -1,3 +1,4 @@
+pub mod Gives
 pub mod Records
 pub mod PartialFrames
 pub mod ReadBack

@@ -1,10 +1,10 @@
 -- A frame as far as it was read: record after record.
-use Rattle.std.specs.Prelude.{ℕ, ◌-◌, ◌+◌, ◌++◌, ◌≡◌, List, [], ◌∷◌, length, nat_lt, if◌then◌else◌, Option, None, Some, option_map, option_and_then, ok_or, slice_get, Result, Ok, Err, ⊤}
+use Rattle.std.specs.Prelude.{ℕ, ◌-◌, ◌+◌, ◌++◌, Bool, true, false, List, [], ◌∷◌, length, nat_lt, if◌then◌else◌, Option, None, Some, option_map, ok_or, slice_get, Result, Err}
 use Rattle.std.specs.Option.{option_map_or}
-use Rattle.csv.specs.Reading.{AreRecords, Reached, default_config, records, strip_bom}
-use Rattle.csv.specs.declared.parser.State.TheVariants as st
+use Rattle.csv.specs.Reading.{default_config, records, strip_bom}
 use Rattle.dem_model.specs.declared.state.State.{State}
 use Rattle.dem_model.specs.declared.state.Held.{Held}
+use Rattle.dem_frame.specs.Gives.{GivesUnless}
 use Rattle.dem_frame.specs.Records.{head_of, clump_of, pair_of}
 use Rattle.dem_frame.specs.declared.partial.PartialFrame.{PartialFrame}
 use Rattle.dem_frame.specs.declared.partial.FrameFault.{FrameFault}
@@ -34,11 +34,6 @@ with_head clumps frame (Some n) fields = with_body clumps frame fields
 abbrev pub with_record : ℕ → PartialFrame → List (List ℕ) → Option PartialFrame
 with_record clumps frame fields = with_head clumps frame frame.step fields
 
--- what was read of these records, from what was read before
-unfoldable pub read_on : ℕ → PartialFrame → List (List (List ℕ)) → Option PartialFrame
-read_on clumps frame [] = Some frame
-read_on clumps frame (row ∷ rows) = option_and_then (λ next. read_on clumps next rows) (with_record clumps frame row)
-
 -- the state, where neither the head nor a clump is missing
 unfoldable pub whole_frame : ℕ → PartialFrame → Option State
 whole_frame clumps frame =
@@ -55,26 +50,11 @@ frame_from clumps before frame (row ∷ rows) =
 unfoldable pub frame_of : ℕ → List ℕ → Result State FrameFault
 frame_of clumps text = frame_from clumps 0 nothing_read (records default_config (strip_bom text))
 
--- a fault is that of the definition; OutOfMemory tells nothing
-abbrev pub Fails : FrameFault → Result State FrameFault → Type 0
-Fails OutOfMemory frame = ⊤
-Fails fault frame = frame ≡ Err fault
+-- whether a fault is want of memory, which tells nothing of the text
+abbrev pub is_memory : FrameFault → Bool
+is_memory OutOfMemory = true
+is_memory fault = false
 
 -- the answer is that of the definition, unless there was no memory
 abbrev pub Gives : Result State FrameFault → Result State FrameFault → Type 0
-Gives (Ok s) frame = frame ≡ Ok s
-Gives (Err fault) frame = Fails fault frame
-
--- how a text reads as a frame of so many clumps
-abbrev pub ReadsFrame : ℕ → List ℕ → Result State FrameFault → Type 0
--- each of its records is good, and nothing is missing
-ReadsFrame clumps text (Ok s) = (rows : List (List (List ℕ))) × AreRecords default_config st.StartRecord (strip_bom text) rows
-    × (frame : PartialFrame) × (read_on clumps nothing_read rows ≡ Some frame) × (whole_frame clumps frame ≡ Some s)
--- the record of this number is the first that no good frame has there
-ReadsFrame clumps text (Err (Bad row)) = (rows : List (List (List ℕ))) × (fields : List (List ℕ)) × (frame : PartialFrame)
-    × ((s2 : _) × (ys : List ℕ) × Reached default_config st.StartRecord (strip_bom text) (rows ++ fields ∷ []) s2 ys)
-    × (read_on clumps nothing_read rows ≡ Some frame) × (with_record clumps frame fields ≡ None) × (row ≡ length rows + 1)
--- its records are good, and the head or a clump is missing
-ReadsFrame clumps text (Err (Short n)) = (rows : List (List (List ℕ))) × AreRecords default_config st.StartRecord (strip_bom text) rows
-    × (frame : PartialFrame) × (read_on clumps nothing_read rows ≡ Some frame) × (whole_frame clumps frame ≡ None) × (n ≡ length rows)
-ReadsFrame clumps text (Err OutOfMemory) = ⊤
+Gives = GivesUnless is_memory

@@ -1,5 +1,5 @@
 -- The frame of a state read back as that state.
-use Rattle.std.specs.Prelude.{ℕ, ◌<◌, ◌≤◌, ◌^◌, ◌≡◌, All, true, ℤ, FitsSigned, List, [], ◌∷◌, length, Option, None, Some, ⊤, Result, Ok, Err}
+use Rattle.std.specs.Prelude.{ℕ, ◌<◌, ◌≤◌, ◌^◌, ◌≡◌, All, true, ℤ, FitsSigned, List, [], ◌∷◌, length, Option, None, Some, ⊤, Result, Ok}
 use Rattle.std.specs.List.{AllByRecursion}
 use mir.Syntax.{w64}
 use Rattle.dem_num.specs.Vectors.{widened, Within}
@@ -7,9 +7,9 @@ use Rattle.dem_model.specs.declared.state.Body.{Body}
 use Rattle.dem_model.specs.declared.state.Held.{Held}
 use Rattle.dem_model.specs.declared.state.State.{State}
 use Rattle.dem_model.specs.Frames.{state_text}
+use Rattle.dem_frame.specs.PartialFrames.{Gives}
 use Rattle.dem_frame.specs.Records.{continues}
 use Rattle.dem_frame.specs.declared.partial.FrameFault.{FrameFault}
-use Rattle.dem_frame.specs.declared.partial.FrameFault.TheVariants.{Bad, Short, OutOfMemory}
 
 -- each of these numbers fits 64 bits with its sign
 abbrev pub FitEach : List ℤ → Type 0
@@ -45,13 +45,6 @@ pub record IsWritable (s : State) : Type 0 where
   pub stored : All IsStored s.held
   pub ascending : Ascends None s.held
 
--- exactly the state was read, if memory sufficed
-abbrev pub GivesState : State → Result State FrameFault → Type 0
-GivesState s (Ok read) = read ≡ s
-GivesState s (Err (Bad row)) = ⊥
-GivesState s (Err (Short n)) = ⊥
-GivesState s (Err OutOfMemory) = ⊤
-
 -- the frame of any state that a frame can hold reads back as that state
 abbrev pub ReadsBack : ℕ → List ℕ → Result State FrameFault → Type 0
-ReadsBack clumps text result = (s : State) → IsWritable s → text ≡ state_text s → clumps ≡ length s.bodies → GivesState s result
+ReadsBack clumps text result = (s : State) → IsWritable s → text ≡ state_text s → clumps ≡ length s.bodies → Gives result (Ok s)

@@ -91,6 +91,7 @@ continues (Some e) q = comes_after e.pair q
 unfoldable pub held_from : Option Held → Pair → Vec3 → Option Held
 held_from last p h = if nat_lt p.a p.b && is_small h && continues last p then Some (record { pair = p; h = h }) else None
 
+-- the same, from the numbers of a row
 unfoldable pub held_of : Option Held → List ℤ → Option Held
 held_of last ns = option_and_then (λ a. option_and_then (λ b. held_from last (record { a = a; b = b }) (vector_of ns 2)) (whole_of top (get_or ns 1 (pos 0)))) (whole_of top (get_or ns 0 (pos 0)))
 

@@ -1,6 +1,6 @@
 //! A frame read back from its text.
 ghost use Rattle.std.specs.Prelude.{◌<◌, ◌≤◌, length};
-ghost use Rattle.dem_frame.specs.PartialFrames.{ReadsFrame, Gives, frame_of};
+ghost use Rattle.dem_frame.specs.PartialFrames.{Gives, frame_of};
 ghost use Rattle.dem_frame.specs.ReadBack.{ReadsBack};
 
 use crate::partial::{FrameFault, PartialFrame};
@@ -14,7 +14,6 @@ pub fn read_frame(alloc: Global, bytes: &[u8], clumps: u32) -> Result<State, Fra
     requires clumps { clumps ≤ 16384 }
     requires size { length bytes.now ≤ 268435456 }
     ensures value { Gives result (frame_of clumps bytes.now) }
-    ensures reads { ReadsFrame clumps bytes.now result }
     ensures back { ReadsBack clumps bytes.now result }
 {
     let reader = ReaderBuilder::new()
@@ -28,7 +27,7 @@ pub fn read_frame(alloc: Global, bytes: &[u8], clumps: u32) -> Result<State, Fra
         let Ok(row) = row else {
             return Err(FrameFault::OutOfMemory);
         };
-        // Never past its type: there are fewer records than bytes.
+        // Never past its type: there are no more records than bytes.
         let Some(number) = rows.checked_add(1) else {
             return Err(FrameFault::OutOfMemory);
         };

@@ -1,11 +1,11 @@
 -- What is held of a pair, from the place that a walk of an ascending list has reached.
-use Rattle.std.proofs.Common.{◌++◌, add-one, take-suc, take_all, ap₂, ◌≡◌, ◌≢◌, ◌⊎◌, inl, inr, ℕ, zero, suc, ◌+◌, ◌<◌, ◌≤◌, ◌==◌, ◌&&◌, Bool, true, false, List, [], ◌∷◌, length, get_or, take, map, slice_get, Option, Some, None, refl, sym, ap, ◌∙◌, arith}
-use Rattle.std.specs.List.{cons_option, AllWithin}
+use Rattle.std.proofs.Common.{◌++◌, add-one, take-suc, take_all, ap₂, subst, ◌≡◌, ◌≢◌, ◌⊎◌, inl, inr, ℕ, zero, suc, ◌+◌, ◌-◌, ◌<◌, ◌≤◌, ◌==◌, ◌&&◌, true, false, List, [], ◌∷◌, length, get_or, take, drop, map, slice_get, Option, Some, None, refl, sym, ap, ◌∙◌, arith}
+use Rattle.std.specs.List.{cons_option, slice_range}
 use Rattle.std.specs.Option.{option_map}
 use Rattle.std.specs.Ordering.{is_lt}
-use Rattle.std.specs.declared.cmp.Ordering.TheVariants.{Less, Equal, Greater}
-use Rattle.std.proofs.lemmas.Bool.{cases_lt}
-use Rattle.std.proofs.lemmas.List.{map-append, length-map}
+use Rattle.std.specs.declared.cmp.Ordering.TheVariants.{Less}
+use Rattle.std.proofs.lemmas.Bool.{cases_lt, false_from_ne_true}
+use Rattle.std.proofs.lemmas.List.{map-append, length-map, length-drop, length-take-le, take-append-drop, take-take, drop-take, take-map, drop-map, get_or-take, get_or-drop, get_or-map, get_or_default, same_lists}
 use Rattle.std.proofs.lemmas.Option.{get_or_from_slice_get, slice_get_within}
 use Rattle.std.proofs.lemmas.Bool.Decides.{nat_tests}
 use Rattle.std.proofs.lemmas.Map.Keys.{Less-from_sorted}
@@ -15,9 +15,9 @@ use Rattle.dem_model.specs.declared.state.Held.{Held}
 use Rattle.dem_model.specs.Step.{held_at, same_pair}
 use Rattle.dem_model.specs.Pairs.{pair_cmp}
 use Rattle.dem_list.specs.Ascending.{IsAscending}
-use Rattle.dem_list.proofs.AscendingFacts.{pair_cmp-total}
+use Rattle.dem_list.proofs.AscendingFacts.{pair_cmp-total, same_pair-equal}
 use Rattle.dem_model.specs.Carry.{held_of, kept_of, carried}
-use Rattle.dem_hist.specs.Inside.{AllBefore, IsReached}
+use Rattle.dem_hist.specs.Inside.{AllBefore, IsReached, IsStretch}
 
 -- a pair is the same as itself
 pub same_pair-itself : (p : Pair) → same_pair p p ≡ true
@@ -108,6 +108,80 @@ AllBefore-more ps i p before this = λ k d z l. by k d z l (cases_lt k i)
 -- what comes before a pair comes before each later one
 pub AllBefore-later : (ps : List Pair) (i : ℕ) (p q : Pair) → AllBefore ps i p → pair_cmp p q ≡ Less → AllBefore ps i q
 AllBefore-later ps i p q before less = λ k d z l. pair_cmp-total.trans (get_or ps k d) p q (before k d z l) less
+
+-- what comes before a pair comes before all later ones of an ascending list
+pub AllBefore-all : (ps qs : List Pair) (i j : ℕ) (p : Pair) → IsAscending qs → slice_get qs j ≡ Some p → AllBefore ps i p → (m : ℕ) (d : Pair) → j ≤ m → m < length qs → AllBefore ps i (get_or qs m d)
+AllBefore-all ps qs i j p s there before m d le lt = by (cases_lt j m)
+  where
+    is : get_or qs j d ≡ p
+    is = get_or_from_slice_get qs j p d there
+
+    by : (j < m) ⊎ (m ≤ j) → AllBefore ps i (get_or qs m d)
+    by (inl l) = AllBefore-later ps i p (get_or qs m d) before (let less : pair_cmp (get_or qs j d) (get_or qs m d) ≡ Less = Less-from_sorted {K = Pair} pair_cmp qs j m d s l lt in rw (is) at less)
+    by (inr l) = let same : j ≡ m = omega arith in subst (λ q. AllBefore ps i q) (sym is ∙ ap (λ n. get_or qs n d) same) before
+
+-- behind a stretch of the same pairs the walk has passed these too
+pub AllBefore-stretch : (ps qs : List Pair) (i j n : ℕ) → IsAscending qs → IsStretch ps i qs j n → ((m : ℕ) (d : Pair) → j ≤ m → m < length qs → AllBefore ps i (get_or qs m d)) → (m : ℕ) (d : Pair) → j + n ≤ m → m < length qs → AllBefore ps (i + n) (get_or qs m d)
+AllBefore-stretch ps qs i j n s on before m d le lt = λ k e z l. by k e z l (cases_lt k i)
+  where
+    this : (k : ℕ) (e : Pair) → k < n → pair_cmp (get_or ps (i + k) e) (get_or qs m d) ≡ Less
+    this k e l =
+        let less : pair_cmp (get_or qs (j + k) e) (get_or qs m e) ≡ Less = Less-from_sorted {K = Pair} pair_cmp qs (j + k) m e s (omega arith) lt in
+        ap₂ pair_cmp (on.same k e l) (get_or_default qs m d e lt) ∙ less
+
+    by : (k : ℕ) (e : Pair) → 0 ≤ k → k < i + n → (k < i) ⊎ (i ≤ k) → pair_cmp (get_or ps k e) (get_or qs m d) ≡ Less
+    by k e z l (inl b) = before m d (omega arith) lt k e z b
+    by k e z l (inr b) = let place : i + (k - i) ≡ k = omega arith in ap (λ h. pair_cmp (get_or ps h e) (get_or qs m d)) (sym place) ∙ this (k - i) e (omega arith)
+
+-- the pairs of a stretch, as a part of either list
+pub stretch_pairs : (ps qs : List Pair) (i j n : ℕ) → IsStretch ps i qs j n → take n (drop i ps) ≡ take n (drop j qs)
+stretch_pairs ps qs i j n on = same_lists (take n (drop i ps)) (take n (drop j qs)) (long ps i on.old_within ∙ sym (long qs j on.new_within)) (λ k d l. each k d (let is : length (take n (drop i ps)) ≡ n = long ps i on.old_within in omega (arith, l, is)))
+  where
+    long : (xs : List Pair) (i : ℕ) → i + n ≤ length xs → length (take n (drop i xs)) ≡ n
+    long xs i fits = length-take-le n (drop i xs) (let left : length (drop i xs) ≡ length xs - i = length-drop i xs in omega (arith, left, fits))
+
+    at : (xs : List Pair) (i k : ℕ) (d : Pair) → k < n → get_or (take n (drop i xs)) k d ≡ get_or xs (i + k) d
+    at xs i k d l = get_or-take n (drop i xs) k d l ∙ get_or-drop i xs k d
+
+    each : (k : ℕ) (d : Pair) → k < n → get_or (take n (drop i ps)) k d ≡ get_or (take n (drop j qs)) k d
+    each k d l = at ps i k d l ∙ on.same k d l ∙ sym (at qs j k d l)
+
+-- where the next pair of the new list doesn't begin a stretch, nothing is held of it
+pub entry-none : (ps : List Pair) (es : List (Option Vec3)) (qs : List Pair) (i j : ℕ) (p : Pair) → IsAscending ps → IsReached ps i p → IsStretch ps i qs j 0 → slice_get qs j ≡ Some p → None ≡ held_at (kept_of ps es) p
+entry-none ps es qs i j p s here on there = sym (entry-nowhere ps es i p s here past)
+  where
+    other : (d : Pair) → i < length ps → get_or ps i d ≡ p → ⊥
+    other d lt is = on.ends d (omega arith) (let within : j < length qs = slice_get_within qs j p there in omega arith) (ap (λ k. get_or ps k d) (omega arith) ∙ is ∙ sym (get_or_from_slice_get qs j p d there) ∙ ap (λ k. get_or qs k d) (omega arith))
+
+    past : (d : Pair) → i < length ps → pair_cmp p (get_or ps i d) ≡ Less
+    past d lt = pair_cmp-after (get_or ps i d) p (here.after d lt) (false_from_ne_true _ (λ same. other d lt (same_pair-equal (get_or ps i d) p same)))
+
+-- carried to its own list, each entry stays
+pub carried-itself : (ps : List Pair) (es : List (Option Vec3)) → IsAscending ps → length es ≡ length ps → map (held_at (kept_of ps es)) ps ≡ es
+carried-itself ps es s same = same_lists (map f ps) es (length-map ps f ∙ sym same) (λ k d l. each k d (let long : length (map f ps) ≡ length ps = length-map ps f in omega (arith, l, long)))
+  where
+    f : Pair → Option Vec3
+    f = held_at (kept_of ps es)
+
+    first : Pair
+    first = record { a = 0; b = 0 }
+
+    each : (k : ℕ) (d : Option Vec3) → k < length ps → get_or (map f ps) k d ≡ get_or es k d
+    each k d l = get_or-map f ps k first d l ∙ entry-here ps es k (get_or ps k first) s same l (λ q. get_or_default ps k q first l) ∙ get_or_default es k None d (omega (arith, l, same))
+
+-- some of a list, and then some of what is left
+pub take-more_of : {X : Type 0} (j n : ℕ) (xs : List X) → take (j + n) xs ≡ take j xs ++ take n (drop j xs)
+take-more_of {X = X} j n xs = sym (take-append-drop j (take (j + n) xs)) ∙ ap₂ (λ (ys zs : List X). ys ++ zs) (take-take j (j + n) xs (omega arith)) (drop-take j n xs)
+
+-- the walk goes on with a stretch of the same pairs
+pub carried-stretch : (ps : List Pair) (es xs : List (Option Vec3)) (new : List Pair) (i j n : ℕ) → IsAscending ps → length es ≡ length ps → IsStretch ps i new j n → xs ≡ map (held_at (kept_of ps es)) (take j new) → xs ++ slice_range es i (i + n) ≡ map (held_at (kept_of ps es)) (take (j + n) new)
+carried-stretch ps es xs new i j n s same on filled =
+    let f : Pair → Option Vec3 = held_at (kept_of ps es) in
+    let count : i + n - i ≡ n = omega arith in
+    let own : take n (drop i es) ≡ take n (drop i (map f ps)) = ap (λ ys. take n (drop i ys)) (sym (carried-itself ps es s same)) in
+    let those : take n (drop i (map f ps)) ≡ map f (take n (drop i ps)) = ap (take n) (drop-map f i ps) ∙ take-map f n (drop i ps) in
+    let here : take n (drop i es) ≡ map f (take n (drop j new)) = own ∙ those ∙ ap (map f) (stretch_pairs ps new i j n on) in
+    ap (λ (k : ℕ). xs ++ take k (drop i es)) count ∙ ap₂ (λ (ys zs : List (Option Vec3)). ys ++ zs) filled here ∙ sym (map-append f (take j new) (take n (drop j new))) ∙ ap (map f) (sym (take-more_of j n new))
 
 -- the walk goes on with the next pair of the new list
 pub carried-more : (ps : List Pair) (es xs : List (Option Vec3)) (new : List Pair) (j : ℕ) (p : Pair) (e : Option Vec3) → xs ≡ map (held_at (kept_of ps es)) (take j new) → slice_get new j ≡ Some p → e ≡ held_at (kept_of ps es) p → xs ++ e ∷ [] ≡ map (held_at (kept_of ps es)) (take (j + 1) new)

@@ -1,9 +1,8 @@
 //! One walk of the old list and the new: what is held of each pair of the new one.
 
-ghost use Rattle.std.specs.Prelude.{◌≡◌, ◌<◌, ◌≤◌, ◌++◌, [], ◌∷◌, length, OnOk};
-ghost use Rattle.dem_model.specs.Step.{held_at};
-ghost use Rattle.dem_model.specs.Carry.{kept_of, carried};
-ghost use Rattle.dem_hist.specs.Inside.{AllBefore, IsReached};
+ghost use Rattle.std.specs.Prelude.{◌≡◌, ◌≤◌, ◌++◌, [], ◌∷◌, length, OnOk};
+ghost use Rattle.dem_model.specs.Carry.{carried};
+ghost use Rattle.dem_hist.specs.Inside.{AllBefore, IsReached, IsStretch};
 
 use dem_list::{PairList, is_before};
 use dem_model::{OutOfMemory, Pair};
@@ -24,20 +23,19 @@ fn reached(old: &PairList, mut at: u32, pair: Pair) -> u32
     at
 }
 
-/// What is held of `pair`, where `at` is the first place whose pair doesn't come before it.
-fn entry_for(old: &PairList, entries: &[Option<Vec3>], at: u32, pair: Pair) -> Option<Vec3>
-    requires as_many { length entries.now ≡ length old.now.pairs }
-    requires reached { IsReached old.now.pairs at pair }
-    ensures { result ≡ held_at (kept_of old.now.pairs entries.now) pair }
+/// How many pairs on end are the same in both lists, from place `at` of the old one and place `j` of the new one.
+fn stretch(old: &PairList, at: u32, new: &PairList, j: u32) -> u32
+    requires old_place { at ≤ length old.now.pairs }
+    requires new_place { j ≤ length new.now.pairs }
+    ensures { IsStretch old.now.pairs at new.now.pairs j result }
 {
-    if at == old.len() {
-        return None;
+    let most = (old.len() - at).min(new.len() - j);
+    for count in 0..most {
+        if old.get(at + count) != new.get(j + count) {
+            return count;
+        }
     }
-    if old.get(at) == pair {
-        entries[at as usize]
-    } else {
-        None
-    }
+    most
 }
 
 /// Appends an entry.
@@ -45,6 +43,16 @@ fn pushed(spare: &mut Vec<Option<Vec3>>, entry: Option<Vec3>) -> Result<(), OutO
     ensures { OnOk result (spare.new.items ≡ spare.old.items ++ entry ∷ []) }
 {
     match spare.push(entry) {
+        Ok(()) => Ok(()),
+        Err(_) => Err(OutOfMemory),
+    }
+}
+
+/// Appends entries.
+fn appended(spare: &mut Vec<Option<Vec3>>, entries: &[Option<Vec3>]) -> Result<(), OutOfMemory>
+    ensures { OnOk result (spare.new.items ≡ spare.old.items ++ entries.now) }
+{
+    match spare.extend_from_slice(entries) {
         Ok(()) => Ok(()),
         Err(_) => Err(OutOfMemory),
     }
@@ -60,13 +68,21 @@ pub fn fill(
     requires { length entries.now ≡ length old.now.pairs }
     ensures { OnOk result (spare.new.items ≡ carried old.now.pairs entries.now new.now.pairs) }
 {
+    let _pairs = old.len();
     spare.clear();
     let mut at = 0;
-    for j in 0..new.len() {
-        let pair = new.get(j);
-        at = reached(old, at, pair);
-        let entry = entry_for(old, entries, at, pair);
-        pushed(spare, entry)?;
+    let mut j = 0;
+    while j < new.len() {
+        at = reached(old, at, new.get(j));
+        let count = stretch(old, at, new, j);
+        if count == 0 {
+            pushed(spare, None)?;
+            j += 1;
+        } else {
+            appended(spare, &entries[at as usize..(at + count) as usize])?;
+            at += count;
+            j += count;
+        }
     }
     Ok(())
 }

@@ -17,7 +17,8 @@ use Rattle.dem_model.specs.declared.state.State.{State}
 use Rattle.dem_model.specs.declared.state.End.{End}
 use Rattle.dem_model.specs.declared.state.Last.{Last}
 use Rattle.dem_model.specs.declared.state.Last.TheVariants.{Done, Passed}
-use Rattle.dem_output.proofs.RunLaw.{by_step, last_from, last_after-left, step_of-step}
+use Rattle.dem_output.proofs.RunFacts.{last_from-next, last_from-end, last_from-none, left-suc}
+use Rattle.dem_output.proofs.RunLaw.{last_from, last_after-left, step_of-step}
 use Rattle.dem_output.proofs.WholeFacts.{first-step}
 use Rattle.dem_look.specs.Looking.{due_look, shown_after}
 use Rattle.dem_look.proofs.DueFacts.{dues_from, dues-first, dues-next, dues-end, dues-done}
@@ -73,22 +74,6 @@ StandsLooking-start old now s first =
 pub first-failed : (old now : Option (List ℕ)) (s : SceneValue) → AppendsPrefix old now (due_look s None (first_state s)) → AppendsPrefix old now (looked_at s)
 first-failed old now s front =
     subst (AppendsPrefix old now) (looked-first s) (AppendsPrefix-longer old now (due_look s None (first_state s)) _ front)
-
-last_from-next : (s : SceneValue) (k : ℕ) (st next : State) → step_of s st ≡ Ok next → last_from s (suc k) st ≡ last_from s k next
-unfolding last_from
-last_from-next s k st next e = ap (by_step (λ (st' : State). last_from s k st') Passed) e
-
-last_from-end : (s : SceneValue) (k : ℕ) (st : State) (e : End) → step_of s st ≡ Err e → last_from s (suc k) st ≡ Passed e
-unfolding last_from
-last_from-end s k st e passed = ap (by_step (λ (st' : State). last_from s k st') Passed) passed
-
-last_from-none : (s : SceneValue) (st : State) → last_from s zero st ≡ Done s.steps
-unfolding last_from
-last_from-none s st = refl
-
--- one step fewer is left
-left-suc : (s : SceneValue) (st next : State) → st.step < s.steps → next.step ≡ st.step + 1 → s.steps - st.step ≡ suc (s.steps - next.step)
-left-suc s st next below step = omega arith
 
 looks_left-next : (s : SceneValue) (before : Option State) (st next : State) → st.step < s.steps → step_of s st ≡ Ok next
     → looks_left s before st ≡ due_look s before next ++ looks_left s (shown_after s before next) next

@@ -19,21 +19,21 @@ use Rattle.dem_look.specs.Looking.{due_look, shown_after, MakesLook, WritesLook}
 use Rattle.dem_look.proofs.LookFacts.{StandsLooking, StandsLooking-start, first-failed, StandsLooking-more, StandsLooking-failed, StandsLooking-front, StandsLooking-end, LacksEnd, LacksEnd-kept}
 
 -- a new run of a scene, where the shapes are those of that scene
-pub new-run : (shapes s : SceneValue) (run : Run) → run ≡ record { scene = s; state = first_state s; whole = true } → shapes ≡ s → run ≡ record { scene = shapes; state = first_state shapes; whole = true }
-new-run shapes s run new same = new ∙ ap (λ (x : SceneValue). (let r : Run = record { scene = x; state = first_state x; whole = true } in r)) (sym same)
+pub new-run : (shapes s : SceneValue) (run : Run) → run ≡ record { scene = s; state = first_state s; from_first = true } → shapes ≡ s → run ≡ record { scene = shapes; state = first_state shapes; from_first = true }
+new-run shapes s run new same = new ∙ ap (λ (x : SceneValue). (let r : Run = record { scene = x; state = first_state x; from_first = true } in r)) (sym same)
 
--- what the loop keeps: the run is the whole run of this scene, the looker shows the state that was due last, and no put failed
+-- what the loop keeps: the run is that of this scene from its first state, the looker shows the state that was due last, and no put failed
 pub record LooksOn (old now : Option (List ℕ)) (faults faults_now : ℕ) (s : SceneValue) (run : Run) (looker : LookerValue) : Type 0 where
   pub before : Option State
   pub shows : Shows s looker before
   pub made : looker.clumps ≡ length s.clumps
   pub scene_is : run.scene ≡ s
-  pub whole : run.whole ≡ true
+  pub from_first : run.from_first ≡ true
   pub stands : StandsLooking old now s before run.state
   pub count : faults_now ≡ faults
 
 -- the row of the first state was written
-pub begun : (old now : Option (List ℕ)) (faults faults_now : ℕ) (s : SceneValue) (run : Run) (looker looker_now : LookerValue) → run ≡ record { scene = s; state = first_state s; whole = true }
+pub begun : (old now : Option (List ℕ)) (faults faults_now : ℕ) (s : SceneValue) (run : Run) (looker looker_now : LookerValue) → run ≡ record { scene = s; state = first_state s; from_first = true }
     → looker.clumps ≡ length s.clumps → looker_now.clumps ≡ looker.clumps → Shows s looker None
     → ((before : Option State) → Shows s looker before → Shows s looker_now (shown_after s before run.state))
     → ((before : Option State) → Shows s looker before → Appends old now (due_look s before run.state))
@@ -45,13 +45,13 @@ begun old now faults faults_now s run looker looker_now new made kept fresh show
       shows = shows None fresh;
       made = kept ∙ made;
       scene_is = ap (λ (r : Run). r.scene) new;
-      whole = ap (λ (r : Run). r.whole) new;
+      from_first = ap (λ (r : Run). r.from_first) new;
       stands = subst (λ x. StandsLooking old now s (shown_after s None x) x) (sym state_is) (StandsLooking-start old now s (subst (λ x. Appends old now (due_look s None x)) state_is (row None fresh)));
       count = count;
     }
 
 -- its put failed
-pub not-begun : (old now : Option (List ℕ)) (s : SceneValue) (run : Run) (looker : LookerValue) → run ≡ record { scene = s; state = first_state s; whole = true } → Shows s looker None
+pub not-begun : (old now : Option (List ℕ)) (s : SceneValue) (run : Run) (looker : LookerValue) → run ≡ record { scene = s; state = first_state s; from_first = true } → Shows s looker None
     → ((before : Option State) → Shows s looker before → AppendsPrefix old now (due_look s before run.state)) → AppendsPrefix old now (looked_at s)
 not-begun old now s run looker new fresh front =
     first-failed old now s (subst (λ x. AppendsPrefix old now (due_look s None x)) (ap (λ (r : Run). r.state) new) (front None fresh))
@@ -63,7 +63,7 @@ module _ (old mid now : Option (List ℕ)) (faults faults_mid faults_now : ℕ) 
     shows = made.4 keeps.before keeps.shows;
     made = kept ∙ keeps.made;
     scene_is = made.1 ∙ keeps.scene_is;
-    whole = made.2 ∙ keeps.whole;
+    from_first = made.2 ∙ keeps.from_first;
     stands = StandsLooking-more old mid now s keeps.before run.state new.state keeps.stands below made.0 (made.5 keeps.before keeps.shows);
     count = made.3 ∙ keeps.count;
   }
@@ -88,7 +88,3 @@ module _ (old mid now : Option (List ℕ)) (faults faults_mid faults_now : ℕ) 
     subst (λ n. Rose n faults_now) keeps.count made.2,
   )
   stopped OutOfMemory made = (AppendsPrefix-kept old mid now (looked_at s) (StandsLooking-front old mid s keeps.before run.state keeps.stands) made.0, made.1 ∙ keeps.count)
-
--- a count rose that had not risen before
-pub Rose-from : (faults mid now : ℕ) → mid ≡ faults → Rose mid now → Rose faults now
-Rose-from faults mid now same rose = subst (λ n. Rose n now) same rose

@@ -18,6 +18,6 @@ abbrev pub Shows : SceneValue → LookerValue → Option State → Type 0
 Shows s looker before = looker.lows ≡ option_map (lows_of s) before
 
 -- there is a flag of the last state, a flag of the next one and a count for each clump
-pub record HasRoom (flags next : List Bool) (counts : List ℕ) : Type 0 where
+pub record HasRoom (flags next_flags : List Bool) (counts : List ℕ) : Type 0 where
   pub low : length flags ≡ length counts
-  pub now : length next ≡ length counts
+  pub next : length next_flags ≡ length counts

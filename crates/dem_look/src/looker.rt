@@ -20,7 +20,7 @@ use std::marker::Model;
 pub struct Looker {
     seen: bool,
     low: Vec<bool>,
-    now: Vec<bool>,
+    next: Vec<bool>,
     counts: Vec<u32>,
 }
 
@@ -32,7 +32,7 @@ impl Model for Looker {
 
     ghost view = { λ a. record { clumps = length a.counts.items; lows = if a.seen then Some a.low.items else None } };
 
-    ghost invariant = { λ a. HasRoom a.low.items a.now.items a.counts.items };
+    ghost invariant = { λ a. HasRoom a.low.items a.next.items a.counts.items };
 }
 
 impl Looker {
@@ -45,7 +45,7 @@ impl Looker {
         Ok(Looker {
             seen: false,
             low: filled(alloc, clumps, false)?,
-            now: filled(alloc, clumps, false)?,
+            next: filled(alloc, clumps, false)?,
             counts: filled(alloc, clumps, 0)?,
         })
     }
@@ -59,11 +59,11 @@ impl Looker {
         ensures made { self.new.clumps ≡ self.old.clumps }
     {
         let _scene = shapes.scene();
-        flag_lows(self.now.as_mut_slice(), shapes, state);
+        flag_lows(self.next.as_mut_slice(), shapes, state);
         count_contacts(self.counts.as_mut_slice(), shapes, state.held.as_slice());
-        let crossed = crossings(self.seen, self.low.as_slice(), self.now.as_slice());
+        let crossed = crossings(self.seen, self.low.as_slice(), self.next.as_slice());
         let contacts = find_busiest(self.counts.as_slice());
-        std::mem::swap(&mut self.low, &mut self.now);
+        std::mem::swap(&mut self.low, &mut self.next);
         self.seen = true;
         LookRow {
             step: state.step,

@@ -65,7 +65,7 @@ fn look_on<K: Sink>(
 ) -> Result<Last, LookFault>
     requires made { looker.old.clumps ≡ length shapes.now.clumps }
     requires fresh { Shows shapes.now looker.old None }
-    requires starts { run.old ≡ record { scene = shapes.now; state = first_state shapes.now; whole = true } }
+    requires starts { run.old ≡ record { scene = shapes.now; state = first_state shapes.now; from_first = true } }
     ensures { WritesLook shapes.now (K.held out.old) (K.held out.new) (K.faults out.old) (K.faults out.new) result }
 {
     look_at(shapes, looker, run, out)?;
@@ -87,7 +87,7 @@ fn step_on<K: Sink>(
 ) -> Result<Option<End>, LookFault>
     requires made { looker.old.clumps ≡ length shapes.now.clumps }
     requires same { run.old.scene ≡ shapes.now }
-    requires whole { run.old.whole ≡ true }
+    requires from_first { run.old.from_first ≡ true }
     requires goes_on { run.old.state.step < shapes.now.steps }
     ensures step { MakesLook shapes.now run.old run.new looker.old looker.new (K.held out.old) (K.held out.new) (K.faults out.old) (K.faults out.new) result }
     ensures made { looker.new.clumps ≡ looker.old.clumps }
@@ -112,7 +112,7 @@ fn look_at<K: Sink>(
 ) -> Result<(), WriteFault>
     requires made { looker.old.clumps ≡ length shapes.now.clumps }
     requires same { run.now.scene ≡ shapes.now }
-    requires whole { run.now.whole ≡ true }
+    requires from_first { run.now.from_first ≡ true }
     ensures count { Counts (K.faults out.old) (K.faults out.new) result }
     ensures written { (before : Option StateValue) → Shows shapes.now looker.old before → PutAppends (K.held out.old) (K.held out.new) result (due_look shapes.now before run.now.state) }
     ensures shows { (before : Option StateValue) → Shows shapes.now looker.old before → Shows shapes.now looker.new (shown_after shapes.now before run.now.state) }

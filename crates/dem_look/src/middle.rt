@@ -17,16 +17,16 @@ pub(crate) struct Crossing {
 }
 
 /// How many clumps passed the middle height, from these flags of who was low to those of who is; none where nothing was seen before.
-pub(crate) fn crossings(seen: bool, low: &[bool], now: &[bool]) -> Crossing
+pub(crate) fn crossings(seen: bool, low: &[bool], next: &[bool]) -> Crossing
     requires few { length low.now ≤ 16384 }
-    requires same { length now.now ≡ length low.now }
-    ensures up { result.up ≡ (if seen then left_count low.now now.now else 0) }
-    ensures down { result.down ≡ (if seen then left_count now.now low.now else 0) }
+    requires same { length next.now ≡ length low.now }
+    ensures up { result.up ≡ (if seen then left_count low.now next.now else 0) }
+    ensures down { result.down ≡ (if seen then left_count next.now low.now else 0) }
 {
     if seen {
         Crossing {
-            up: count_left(low, now),
-            down: count_left(now, low),
+            up: count_left(low, next),
+            down: count_left(next, low),
         }
     } else {
         Crossing { up: 0, down: 0 }

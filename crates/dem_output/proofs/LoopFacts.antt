@@ -79,13 +79,13 @@ module _ (old mid now : Option (List ℕ)) (faults faults_mid faults_now : ℕ) 
 -- ---- the whole run: its first frame, and the rest
 
 -- the run at the first state
-pub at-first : (s : SceneValue) (run : Run) → run ≡ record { scene = s; state = first_state s; whole = true } → (run.scene ≡ s) × (run.state ≡ first_state s) × (run.state.step ≤ s.steps)
+pub at-first : (s : SceneValue) (run : Run) → run ≡ record { scene = s; state = first_state s; from_first = true } → (run.scene ≡ s) × (run.state ≡ first_state s) × (run.state.step ≤ s.steps)
 at-first s run new =
     let state_is : run.state ≡ first_state s = ap (λ (r : Run). r.state) new in
     (ap (λ (r : Run). r.scene) new, state_is, omega (arith, ap (λ (st : State). st.step) state_is, first-step s))
 
 -- the put of the first frame failed
-pub not-begun : (old now : Option (List ℕ)) (s : SceneValue) (run : Run) (st : State) → run ≡ record { scene = s; state = first_state s; whole = true } → st ≡ run.state
+pub not-begun : (old now : Option (List ℕ)) (s : SceneValue) (run : Run) (st : State) → run ≡ record { scene = s; state = first_state s; from_first = true } → st ≡ run.state
     → AppendsPrefix old now (due_text s st) → AppendsPrefix old now (output_of s)
 not-begun old now s run st new here front =
     subst (AppendsPrefix old now) (sym (output_of-first s))
@@ -105,7 +105,7 @@ whole-from old mid now faults faults_now s (Err OutOfMemory) frame rest =
     (subst (AppendsPrefix old now) (sym (output_of-first s)) (AppendsPrefix-after old mid now (due_text s (first_state s)) (rest_of s (first_state s)) frame rest.0), rest.1)
 
 pub whole-run : (old mid now : Option (List ℕ)) (faults faults_mid faults_now : ℕ) (s : SceneValue) (run : Run) (st : State) (r : Result Last RunFault)
-    → run ≡ record { scene = s; state = first_state s; whole = true } → st ≡ run.state → Appends old mid (due_text s st) → faults_mid ≡ faults
+    → run ≡ record { scene = s; state = first_state s; from_first = true } → st ≡ run.state → Appends old mid (due_text s st) → faults_mid ≡ faults
     → WritesRest s run.state mid now faults_mid faults_now r → WritesRun s old now faults faults_now r
 whole-run old mid now faults faults_mid faults_now s run st r new here frame count rest =
     let first : run.state ≡ first_state s = ap (λ (r : Run). r.state) new in

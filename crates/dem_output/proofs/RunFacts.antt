@@ -29,20 +29,20 @@ frames_from-none : (s : SceneValue) (st : State) → frames_from s zero st ≡ [
 unfolding frames_from
 frames_from-none s st = refl
 
-last_from-next : (s : SceneValue) (k : ℕ) (st next : State) → step_of s st ≡ Ok next → last_from s (suc k) st ≡ last_from s k next
+pub last_from-next : (s : SceneValue) (k : ℕ) (st next : State) → step_of s st ≡ Ok next → last_from s (suc k) st ≡ last_from s k next
 unfolding last_from
 last_from-next s k st next e = ap (by_step (λ (st' : State). last_from s k st') Passed) e
 
-last_from-end : (s : SceneValue) (k : ℕ) (st : State) (e : End) → step_of s st ≡ Err e → last_from s (suc k) st ≡ Passed e
+pub last_from-end : (s : SceneValue) (k : ℕ) (st : State) (e : End) → step_of s st ≡ Err e → last_from s (suc k) st ≡ Passed e
 unfolding last_from
 last_from-end s k st e passed = ap (by_step (λ (st' : State). last_from s k st') Passed) passed
 
-last_from-none : (s : SceneValue) (st : State) → last_from s zero st ≡ Done s.steps
+pub last_from-none : (s : SceneValue) (st : State) → last_from s zero st ≡ Done s.steps
 unfolding last_from
 last_from-none s st = refl
 
 -- one step fewer is left
-left-suc : (s : SceneValue) (st next : State) → st.step < s.steps → next.step ≡ st.step + 1 → s.steps - st.step ≡ suc (s.steps - next.step)
+pub left-suc : (s : SceneValue) (st next : State) → st.step < s.steps → next.step ≡ st.step + 1 → s.steps - st.step ≡ suc (s.steps - next.step)
 left-suc s st next below step = omega arith
 
 -- ---- the rest behind a state, by its next step

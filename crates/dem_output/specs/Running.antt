@@ -24,17 +24,19 @@ MakesStep old new held now faults faults_now (Err WriteFault) =
     (step_of old.scene old.state ≡ Ok new.state) × AppendsPrefix held now (due_text old.scene new.state) × Rose faults faults_now
 MakesStep old new held now faults faults_now (Err OutOfMemory) = Keeps held now × (faults_now ≡ faults)
 
--- a whole run: the output and how it ended; or a prefix of the output, and why
-abbrev pub WritesRun : SceneValue → (held now : Option (List ℕ)) → (faults faults_now : ℕ) → Result Last RunFault → Type 0
-WritesRun s held now faults faults_now (Ok last) = (last ≡ last_of s) × Appends held now (output_of s) × (faults_now ≡ faults)
-WritesRun s held now faults faults_now (Err WriteFault) = AppendsPrefix held now (output_of s) × Rose faults faults_now
-WritesRun s held now faults faults_now (Err OutOfMemory) = AppendsPrefix held now (output_of s) × (faults_now ≡ faults)
+-- a text was written whole, and this is how the run ended; or a prefix of the text, and why
+abbrev pub WritesText : List ℕ → Last → (held now : Option (List ℕ)) → (faults faults_now : ℕ) → Result Last RunFault → Type 0
+WritesText text last held now faults faults_now (Ok answer) = (answer ≡ last) × Appends held now text × (faults_now ≡ faults)
+WritesText text last held now faults faults_now (Err WriteFault) = AppendsPrefix held now text × Rose faults faults_now
+WritesText text last held now faults faults_now (Err OutOfMemory) = AppendsPrefix held now text × (faults_now ≡ faults)
 
--- a run from a state: what follows the frame of that state, and how the run ended; or a prefix of that, and why
+-- a whole run: its output
+abbrev pub WritesRun : SceneValue → (held now : Option (List ℕ)) → (faults faults_now : ℕ) → Result Last RunFault → Type 0
+WritesRun s = WritesText (output_of s) (last_of s)
+
+-- a run from a state: what follows the frame of that state
 abbrev pub WritesRest : SceneValue → State → (held now : Option (List ℕ)) → (faults faults_now : ℕ) → Result Last RunFault → Type 0
-WritesRest s st held now faults faults_now (Ok last) = (last ≡ last_after s st) × Appends held now (rest_of s st) × (faults_now ≡ faults)
-WritesRest s st held now faults faults_now (Err WriteFault) = AppendsPrefix held now (rest_of s st) × Rose faults faults_now
-WritesRest s st held now faults faults_now (Err OutOfMemory) = AppendsPrefix held now (rest_of s st) × (faults_now ≡ faults)
+WritesRest s st = WritesText (rest_of s st) (last_after s st)
 
 -- from each state of the plain run the run ends as the plain run does
 abbrev pub EndsAlike : SceneValue → Type 0

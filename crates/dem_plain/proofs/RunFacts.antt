@@ -235,8 +235,8 @@ pub filled_places : (s : SceneValue) (bodies : List Body) (spheres : Spheres) �
 filled_places s bodies spheres matrices e sides = record { matrices = matrices.count; centers = ap length e ∙ length-centers_of s bodies; sides = sides.count }
 
 -- a run with room is a run
-pub run_kept : (s : SceneValue) (old new : Spheres) (st : State) (whole : Bool) → IsRun s old st whole → HasPlaces s new → IsRun s new st whole
-run_kept s old new st whole run room = record {
+pub run_kept : (s : SceneValue) (old new : Spheres) (st : State) (from_first : Bool) → IsRun s old st from_first → HasPlaces s new → IsRun s new st from_first
+run_kept s old new st from_first run room = record {
   scene = run.scene;
   room = room;
   plain = run.plain;
@@ -245,9 +245,9 @@ run_kept s old new st whole run room = record {
 }
 
 -- a run goes on with the next state
-pub run_next : (s : SceneValue) (old new : Spheres) (st next : State) (whole : Bool) → IsRun s old st whole → HasPlaces s new →
-    st.step < s.steps → IsNext s st next → IsRun s new next whole
-run_next s old new st next whole run room lt h = record {
+pub run_next : (s : SceneValue) (old new : Spheres) (st next : State) (from_first : Bool) → IsRun s old st from_first → HasPlaces s new →
+    st.step < s.steps → IsNext s st next → IsRun s new next from_first
+run_next s old new st next from_first run room lt h = record {
   scene = run.scene;
   room = room;
   plain = λ e. plain_next s st next (run.plain e) lt h;
@@ -275,10 +275,10 @@ begins_plain s shapes bodies held same e none =
 
 -- the run that stands at the first state
 pub begins_run : {E : Type 0} (s shapes : SceneValue) (bodies : List Body) (held : List Held) (r : Result Run E) → shapes ≡ s → bodies ≡ (first_state s).bodies → held ≡ [] →
-    IfOk r (λ run. run ≡ record { scene = shapes; state = record { step = 0; bodies = bodies; held = held }; whole = true }) →
-    IfOk r (λ run. run ≡ record { scene = s; state = first_state s; whole = true })
+    IfOk r (λ run. run ≡ record { scene = shapes; state = record { step = 0; bodies = bodies; held = held }; from_first = true }) →
+    IfOk r (λ run. run ≡ record { scene = s; state = first_state s; from_first = true })
 begins_run s shapes bodies held r same e none made =
-    let begun : SceneValue → State → Run = λ x st. record { scene = x; state = st; whole = true } in
+    let begun : SceneValue → State → Run = λ x st. record { scene = x; state = st; from_first = true } in
     let first : State = record { step = 0; bodies = bodies; held = held } in
     subst (λ (st : State). IfOk r (λ run. run ≡ begun s st)) (first_is s bodies held e none)
     (subst (λ (x : SceneValue). IfOk r (λ run. run ≡ begun x first)) same made)

@@ -21,10 +21,10 @@ use Rattle.dem_plain.specs.declared.stop.Stop.{Stop}
 use Rattle.dem_plain.specs.declared.stop.Stop.TheVariants.{Ended, OutOfMemory}
 
 -- what a run keeps: its state is that of the plain run where it began as that, its bodies are sound, what is held is within its range, and there is room for a step
-pub record IsRun (s : SceneValue) (spheres : Spheres) (state : State) (whole : Bool) : Type 0 where
+pub record IsRun (s : SceneValue) (spheres : Spheres) (state : State) (from_first : Bool) : Type 0 where
   pub scene : IsSound s
   pub room : HasPlaces s spheres
-  pub plain : whole ≡ true → plain_at s state.step ≡ Some state
+  pub plain : from_first ≡ true → plain_at s state.step ≡ Some state
   pub bodies : AreSound s state.bodies
   pub held : AreStored state.held
 

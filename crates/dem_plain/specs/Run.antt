@@ -10,10 +10,10 @@ use Rattle.dem_plain.specs.declared.stop.Stop.TheVariants.{Ended, OutOfMemory}
 pub record Run : Type 0 where
   pub scene : SceneValue
   pub state : State
-  pub whole : Bool
+  pub from_first : Bool
 
 -- a step of a run: it is the plain step, or its end, and after a refusal the run is as before
 abbrev pub StepsPlain : {A : Type 0} → Run → Run → Result A Stop → Type 0
-StepsPlain old new (Ok _) = (step_of old.scene old.state ≡ Ok new.state) × (new.scene ≡ old.scene) × (new.whole ≡ old.whole)
+StepsPlain old new (Ok _) = (step_of old.scene old.state ≡ Ok new.state) × (new.scene ≡ old.scene) × (new.from_first ≡ old.from_first)
 StepsPlain old new (Err (Ended e)) = (step_of old.scene old.state ≡ Err e) × (new ≡ old)
 StepsPlain old new (Err OutOfMemory) = new ≡ old

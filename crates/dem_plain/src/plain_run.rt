@@ -26,21 +26,21 @@ pub struct PlainRun<'s> {
     shapes: Shapes<'s>,
     spheres: Spheres,
     state: State,
-    whole: bool,
+    from_first: bool,
 }
 
 impl<'s> Model for PlainRun<'s> {
     ghost Value = { Run };
 
-    ghost view = { λ a. record { scene = a.shapes; state = a.state; whole = a.whole } };
+    ghost view = { λ a. record { scene = a.shapes; state = a.state; from_first = a.from_first } };
 
-    ghost invariant = { λ a. IsRun a.shapes a.spheres a.state a.whole };
+    ghost invariant = { λ a. IsRun a.shapes a.spheres a.state a.from_first };
 }
 
 impl<'s> PlainRun<'s> {
     /// The run of a scene at its first state: the plain run. The only error is refused memory.
     pub fn new(alloc: Global, scene: &'s Scene) -> Result<PlainRun<'s>, OutOfMemory>
-        ensures { IfOk result (λ run. run ≡ record { scene = scene.now; state = first_state scene.now; whole = true }) }
+        ensures { IfOk result (λ run. run ≡ record { scene = scene.now; state = first_state scene.now; from_first = true }) }
     {
         let shapes = Shapes::new(alloc, scene)?;
         let _scene = shapes.scene();
@@ -59,7 +59,7 @@ impl<'s> PlainRun<'s> {
         state: State,
     ) -> Result<PlainRun<'s>, OutOfMemory>
         requires fit { IsFit scene.now state }
-        ensures { IfOk result (λ run. run ≡ record { scene = scene.now; state = state; whole = false }) }
+        ensures { IfOk result (λ run. run ≡ record { scene = scene.now; state = state; from_first = false }) }
     {
         let shapes = Shapes::new(alloc, scene)?;
         PlainRun::at(alloc, shapes, state, false)
@@ -70,12 +70,12 @@ impl<'s> PlainRun<'s> {
         alloc: Global,
         shapes: Shapes<'s>,
         state: State,
-        whole: bool,
+        from_first: bool,
     ) -> Result<PlainRun<'s>, OutOfMemory>
         requires sound { AreSound shapes state.bodies }
         requires stored { AreStored state.held }
-        requires plain { whole ≡ true → plain_at shapes state.step ≡ Some state }
-        ensures { IfOk result (λ run. run ≡ record { scene = shapes.entry; state = state; whole = whole }) }
+        requires plain { from_first ≡ true → plain_at shapes state.step ≡ Some state }
+        ensures { IfOk result (λ run. run ≡ record { scene = shapes.entry; state = state; from_first = from_first }) }
     {
         let _scene = shapes.scene();
         let spheres = Spheres::new(alloc, &shapes)?;
@@ -84,7 +84,7 @@ impl<'s> PlainRun<'s> {
             shapes,
             spheres,
             state,
-            whole,
+            from_first,
         })
     }
 
@@ -107,7 +107,7 @@ impl<'s> PlainRun<'s> {
     /// The state that the run has reached, with sound bodies, and displacements within their range; that of the plain run, where this began as that.
     pub fn state(&self) -> &State
         ensures value { result.now ≡ self.now.state }
-        ensures plain { self.now.whole ≡ true → plain_at self.now.scene self.now.state.step ≡ Some self.now.state }
+        ensures plain { self.now.from_first ≡ true → plain_at self.now.scene self.now.state.step ≡ Some self.now.state }
         ensures sound { AreSound self.now.scene self.now.state.bodies }
         ensures stored { AreStored self.now.state.held }
         ensures bodies { length result.now.bodies ≤ 16384 }

@@ -1,5 +1,5 @@
 -- Reading a saved frame of a scene: the state that its rows are, where a run of the scene may go on from it, or the first fault.
-use Rattle.std.specs.Prelude.{ℕ, ◌≡◌, Bool, not, ◌&&◌, List, length, find, nat_lt, if◌then◌else◌, Option, Result, Ok, Err, ⊤}
+use Rattle.std.specs.Prelude.{ℕ, Bool, true, false, not, ◌&&◌, List, length, find, nat_lt, if◌then◌else◌, Option, Result, Ok, Err}
 use Rattle.std.specs.List.{position, range_with_len}
 use Rattle.std.specs.Option.{option_map_or}
 use Rattle.dem_model.specs.SceneValue.{SceneValue}
@@ -14,6 +14,7 @@ use Rattle.dem_model.specs.declared.state.Clump.{Clump}
 use Rattle.dem_model.specs.declared.state.Held.{Held}
 use Rattle.dem_model.specs.declared.state.Pair.{Pair}
 use Rattle.dem_model.specs.declared.state.State.{State}
+use Rattle.dem_frame.specs.Gives.{GivesUnless}
 use Rattle.dem_frame.specs.PartialFrames.{frame_of}
 use Rattle.dem_frame.specs.declared.partial.FrameFault.{FrameFault}
 use Rattle.dem_frame.specs.declared.partial.FrameFault.TheVariants as frames
@@ -63,12 +64,11 @@ loaded_of s bytes = then_checked s (frame_of (length s.clumps) bytes)
 
 -- ---- what an answer tells
 
--- a fault is that of the definition; OutOfMemory tells nothing
-abbrev pub Fails : SaveFault → Result State SaveFault → Type 0
-Fails saves.OutOfMemory read = ⊤
-Fails fault read = read ≡ Err fault
+-- whether a fault is want of memory, which tells nothing of the frame
+abbrev pub is_memory : SaveFault → Bool
+is_memory saves.OutOfMemory = true
+is_memory fault = false
 
 -- the answer is that of the definition, unless there was no memory
 abbrev pub Gives : Result State SaveFault → Result State SaveFault → Type 0
-Gives (Ok st) read = read ≡ Ok st
-Gives (Err fault) read = Fails fault read
+Gives = GivesUnless is_memory

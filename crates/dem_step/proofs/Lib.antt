@@ -8,3 +8,5 @@ pub mod MarkFacts
 pub mod StoredFacts
 pub mod PreparedFacts
 pub mod SplitFacts
+pub mod AheadFacts
+pub mod HandFacts

@@ -150,7 +150,7 @@ held_at-none f (q ∷ new) p none =
     ]
 
 -- of each pair of a list what a function of the pair has put there is held
-held_at-mapped : (f : Pair → Option Vec3) (new : List Pair) (p : Pair) → Contains new p → held_at (kept_of new (map f new)) p ≡ f p
+pub held_at-mapped : (f : Pair → Option Vec3) (new : List Pair) (p : Pair) → Contains new p → held_at (kept_of new (map f new)) p ≡ f p
 held_at-mapped f [] p there = absurd (omega (arith, there.1))
 held_at-mapped f (q ∷ new) p there =
     ap (λ hs. held_at hs p) (kept_of-cons q new (f q) (map f new))
@@ -208,7 +208,7 @@ filter_map-agree {X} f g (x ∷ xs) all =
     rw (first, rest) refl
 
 -- nothing is there where what would follow doesn't hold
-none_there : {X : Type 0} (o : Option X) (b : Bool) → (is_some o ≡ true → b ≡ true) → b ≡ false → o ≡ None
+pub none_there : {X : Type 0} (o : Option X) (b : Bool) → (is_some o ≡ true → b ≡ true) → b ≡ false → o ≡ None
 none_there None b follows n = refl
 none_there (Some x) b follows n = let yes : b ≡ true = follows refl in absurd (cc)
 

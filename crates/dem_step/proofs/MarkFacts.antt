@@ -1,11 +1,11 @@
 -- What is known of the pairs that a step doesn't look at: in this state, in the next, and once marks are made anew.
-use Rattle.std.proofs.Common.{◌≡◌, ℕ, ◌+◌, ◌-◌, ◌<◌, ◌≤◌, ◌⊎◌, inl, inr, arith, Bool, true, false, List, [], ◌∷◌, ◌++◌, length, map, take, refl, sym, ap, ◌∙◌, subst, Some, None}
+use Rattle.std.proofs.Common.{◌≡◌, ℕ, ◌+◌, ◌-◌, ◌<◌, ◌≤◌, ◌⊎◌, inl, inr, arith, Bool, true, false, List, [], ◌∷◌, ◌++◌, length, map, take, refl, sym, ap, ◌∙◌, subst, Some}
 use Rattle.std.specs.Prelude.{All, slice_get, slice_set, slice_index_or}
 use Rattle.std.proofs.lemmas.List.{get_or-map, get_or-take, map-append}
 use Rattle.std.proofs.lemmas.Option.{get_or_from_slice_get, slice_get_within}
 use Rattle.dem_num.specs.declared.vector.Vec3.{Vec3}
 use Rattle.dem_model.specs.SceneValue.{SceneValue}
-use Rattle.dem_model.specs.Centers.{centers_of, touch_of}
+use Rattle.dem_model.specs.Centers.{centers_of}
 use Rattle.dem_model.specs.Motion.{IsPair}
 use Rattle.dem_model.specs.Plain.{plain_at}
 use Rattle.dem_model.specs.declared.state.Body.{Body}

@@ -38,7 +38,7 @@ HaveMet-none s bodies centers held n loads fresh e count = record {
 }
 
 -- the loads with what may be one more meeting are the sums over all of them
-loads_after-is : (s : SceneValue) (ms : List Meeting) (o : Option Meeting) → loads_after s (loads_of s ms) o ≡ loads_of s (ms ++ cons_option o [])
+pub loads_after-is : (s : SceneValue) (ms : List Meeting) (o : Option Meeting) → loads_after s (loads_of s ms) o ≡ loads_of s (ms ++ cons_option o [])
 loads_after-is s ms None = ap (loads_of s) (sym (append-nil ms))
 loads_after-is s ms (Some m) = sym (loads_of-push s ms m)
 
@@ -48,7 +48,7 @@ held-more ms None = map-append held_in ms []
 held-more ms (Some m) = map-append held_in ms (m ∷ [])
 
 -- the pushes stay small
-small-more : (ms : List Meeting) (o : Option Meeting) → All (λ (m : Meeting). IsSmall m.push) ms → IsSmallMeeting o → All (λ (m : Meeting). IsSmall m.push) (ms ++ cons_option o [])
+pub small-more : (ms : List Meeting) (o : Option Meeting) → All (λ (m : Meeting). IsSmall m.push) ms → IsSmallMeeting o → All (λ (m : Meeting). IsSmall m.push) (ms ++ cons_option o [])
 small-more ms None all small = subst (λ xs. All (λ (m : Meeting). IsSmall m.push) xs) (sym (append-nil ms)) all
 small-more ms (Some m) all small = All-push (λ (m : Meeting). IsSmall m.push) ms m all small
 

@@ -5,3 +5,4 @@ pub mod Stored
 pub mod Prepared
 pub mod Marks
 pub mod Split
+pub mod Ahead

@@ -11,6 +11,7 @@
 #![tactic(auto)]
 
 mod advancing;
+mod ahead;
 mod marks;
 mod meeting;
 mod prepared;

@@ -44,9 +44,17 @@ impl Marks {
         ensures room { OnOk result (count ≤ length self.new.may.items) }
         ensures grows { length self.old.may.items ≤ length self.new.may.items }
     {
+        self.clear();
+        make_room(&mut self.may, true, count)
+    }
+
+    /// Forgets all marks; their room stays.
+    pub fn clear(&mut self)
+        ensures none { self.new.made ≡ false }
+        ensures room { self.new.may ≡ self.old.may }
+    {
         self.made = false;
         self.wait = UNMARKED;
-        make_room(&mut self.may, true, count)
     }
 
     /// Whether the pair at a place is looked at.

@@ -13,15 +13,16 @@ ghost use Rattle.dem_step.specs.Marks.{AreMarked};
 ghost use Rattle.dem_step.specs.Split.{pairs_between, both_loads, AreAdded, IsReady};
 
 use crate::marks::Marks;
-use crate::meeting::clear;
+use crate::meeting::{clear, meet_pair};
 use crate::room::make_room;
-use dem_force::{Spheres, add_push, pushed_uncounted};
+use dem_force::Spheres;
 use dem_hist::Contacts;
 use dem_model::{Body, End, Load, OutOfMemory, Pair};
 use dem_num::{Vec3, WIDE_ZERO, add3};
 use dem_shape::Shapes;
+use rayon::join_mut;
 use std::alloc::Global;
-use std::thread::{Threads, join_mut};
+use std::thread::Threads;
 
 /// Where fewer pairs touched in the step before, one thread makes the step: to start threads takes longer.
 const LEAST_SPLIT: usize = 4096;
@@ -275,7 +276,7 @@ fn meet_range(
         if marks.is_met(i) {
             let pair = contacts.list().get(i);
             let held = contacts.held(i);
-            let entry = meet(loads, shapes, spheres, bodies, pair, held);
+            let entry = meet_pair(loads, shapes, spheres, bodies, pair, held);
             touching = touching.saturating_add(entry.is_some() as u32);
             fresh[(i - from) as usize] = entry;
         } else {
@@ -283,29 +284,6 @@ fn meet_range(
         }
     }
     touching
-}
-
-/// Adds what a pair does to the loads of its clumps, and gives its displacement, where it touches.
-fn meet(
-    loads: &mut [Load],
-    shapes: &Shapes,
-    spheres: &Spheres,
-    bodies: &[Body],
-    pair: Pair,
-    held: Option<Vec3>,
-) -> Option<Vec3>
-    requires pair { IsPair shapes.now pair }
-    requires centers { AreInside shapes.now spheres.now.centers }
-    requires sides { AreSides shapes.now bodies.now spheres.now.sides }
-    requires held { IsStored held }
-    requires loads { AreLoads shapes.now loads.old }
-    ensures loads { loads.new ≡ loads_after shapes.now loads.old (meeting shapes.now bodies.now spheres.now.centers pair held) }
-    ensures entry { result ≡ displacement_of (meeting shapes.now bodies.now spheres.now.centers pair held) }
-    ensures small { IsSmallMeeting (meeting shapes.now bodies.now spheres.now.centers pair held) }
-{
-    let push = pushed_uncounted(shapes, spheres, bodies, pair, held)?;
-    add_push(loads, shapes, pair, &push);
-    Some(push.h)
 }
 
 /// Adds to each load the one at its place.

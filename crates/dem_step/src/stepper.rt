@@ -23,8 +23,9 @@ ghost use Rattle.dem_step.specs.Stepper.{
 };
 
 use crate::advancing::advance_all;
+use crate::ahead::hand_on;
 use crate::marks::Marks;
-use crate::meeting::meet_all;
+use crate::meeting::{meet_uncounted, meet_unless};
 use crate::prepared::Prepared;
 use crate::room::make_room;
 use crate::split::SplitRoom;
@@ -37,13 +38,14 @@ use dem_num::Vec3;
 use dem_shape::{Shapes, Snapshot};
 use dem_voxel::VoxelPos;
 use std::alloc::Global;
-use std::marker::Model;
-use std::sync::ledger::Ledger;
+use std::marker::{Brand, Model};
+use std::sync::ledger::{Blank, Ledger};
 
 mod splitting;
 
 /// A run of a scene on lists of near pairs, seen as the scene, the drift limit, the plain state that it has reached, the
-/// step of the list in use, and what is held of each of its pairs. The room of a step is made before it.
+/// step of the list in use, and what is held of each of its pairs. The room of a step is made before it. `met` says that the
+/// loads and the fresh entries are already those of the list in use where the run stands.
 #[derive(Drop)]
 pub struct Dyn<'s> {
     shapes: &'s Shapes<'s>,
@@ -57,21 +59,24 @@ pub struct Dyn<'s> {
     loads: Vec<Load>,
     next: StoredBodies,
     fresh: Vec<Option<Vec3>>,
+    spare: Vec<Option<Vec3>>,
+    met: bool,
     split: SplitRoom,
 }
 
 impl<'s> Model for Dyn<'s> {
     ghost use Rattle.dem_step.specs.Stepper.{Stepper, state_at};
+    ghost use Rattle.dem_step.specs.Ahead.{IsMetAhead};
     ghost use Rattle.dem_step.specs.Inside.{IsStepper, HasRoom, from_of};
     ghost use Rattle.dem_step.specs.Marks.{StayMarked};
     ghost use Rattle.dem_step.specs.Prepared.{CanPrepare};
-    ghost use Rattle.std.specs.Prelude.{◌+◌};
+    ghost use Rattle.std.specs.Prelude.{◌+◌, ◌≡◌, true};
 
     ghost Value = { Stepper };
 
     ghost view = { λ a. record { scene = a.shapes.now; drift = a.drift; state = state_at a.shapes.now a.step; from = from_of a.listed a.contacts.list.from; contacts = a.contacts } };
 
-    ghost invariant = { λ a. IsStepper a.shapes.now a.drift a.step a.listed a.bodies a.contacts × HasRoom a.shapes.now a.loads.items a.next a.contacts.list.pairs a.fresh.items × CanPrepare a.shapes.now a.bodies a.prepared × StayMarked a.shapes.now a.step (a.contacts.list.from + a.drift) a.contacts.list.pairs a.marks };
+    ghost invariant = { λ a. IsStepper a.shapes.now a.drift a.step a.listed a.bodies a.contacts × HasRoom a.shapes.now a.loads.items a.next a.contacts.list.pairs a.fresh.items × CanPrepare a.shapes.now a.bodies a.prepared × StayMarked a.shapes.now a.step (a.contacts.list.from + a.drift) a.contacts.list.pairs a.marks × (a.met ≡ true → IsMetAhead a.shapes.now a.listed a.bodies a.contacts a.loads.items a.fresh.items) };
 }
 
 impl<'s> Dyn<'s> {
@@ -93,6 +98,8 @@ impl<'s> Dyn<'s> {
             loads: no_loads(alloc, shapes)?,
             next: StoredBodies::new(alloc, shapes)?,
             fresh: Vec::new(alloc),
+            spare: Vec::new(alloc),
+            met: false,
             split: SplitRoom::new(alloc),
         })
     }
@@ -108,7 +115,7 @@ impl<'s> Dyn<'s> {
         ensures unchanged { OnErr result (self.new ≡ self.old) }
         ensures new_list { IfErr result (λ refused. refused.0 ≡ list) }
     {
-        if let Err(fault) = make_room(&mut self.fresh, None, list.len()) {
+        if let Err(fault) = make_room(&mut self.spare, None, list.len()) {
             return Err((list, fault));
         }
         if let Err(fault) = self.marks.forget(list.len()) {
@@ -116,6 +123,20 @@ impl<'s> Dyn<'s> {
         }
         match self.contacts.carry(list) {
             Ok(old) => {
+                let drift = self.drift;
+                self.prepared.make(self.shapes, &self.bodies);
+                hand_on(
+                    self.met,
+                    self.loads.as_mut_slice(),
+                    &mut self.fresh,
+                    &mut self.spare,
+                    &old,
+                    drift,
+                    self.shapes,
+                    &self.prepared.spheres,
+                    self.prepared.unpacked.as_slice(),
+                    &self.contacts,
+                );
                 self.listed = true;
                 Ok(old)
             }
@@ -123,11 +144,31 @@ impl<'s> Dyn<'s> {
         }
     }
 
-    /// Makes ahead what the next step needs of the bodies alone: where all spheres are, and how they move. The run is as it was.
+    /// Makes ahead most of the next step: where all spheres are, how they move, and what the pairs of the list in use come to.
+    /// The next list, if one is taken before the step, keeps what its pairs came to. The run is as it was.
     pub fn prepare(&mut self)
         ensures { self.new ≡ self.old }
     {
         self.prepared.make(self.shapes, &self.bodies);
+        if self.met {
+            return;
+        }
+        if !self.listed {
+            return;
+        }
+        self.marks.clear();
+        let blank = Blank::new(1);
+        meet_uncounted::<Brand>(
+            self.loads.as_mut_slice(),
+            self.fresh.as_mut_slice(),
+            self.shapes,
+            &self.prepared.spheres,
+            self.prepared.unpacked.as_slice(),
+            &self.contacts,
+            &self.marks,
+            blank,
+        );
+        self.met = true;
     }
 
     /// Makes one step on the list in use, or tells the limit that it passes; then nothing has changed. It counts a test per
@@ -145,7 +186,8 @@ impl<'s> Dyn<'s> {
             self.contacts.list(),
             left,
         );
-        meet_all(
+        meet_unless(
+            self.met,
             self.loads.as_mut_slice(),
             self.fresh.as_mut_slice(),
             self.shapes,
@@ -168,6 +210,7 @@ impl<'s> Dyn<'s> {
                 std::mem::swap(&mut self.bodies, &mut self.next);
                 self.contacts.exchange(&mut self.fresh);
                 self.prepared.ready = false;
+                self.met = false;
                 self.step += 1;
                 Ok(())
             }

@@ -2,5 +2,4 @@ pub mod KindFacts
 pub mod CycleFacts
 pub mod SeatFacts
 pub mod LawFacts
-pub mod SampleFacts
 pub mod EventFacts

@@ -1,4 +1,3 @@
 pub mod ExchangeEvents
 pub mod Cycle
 pub mod Seats
-pub mod Sample

@@ -12,12 +12,8 @@ mod laws;
 mod opening;
 mod parcel;
 mod plays;
-#[cfg(test)]
-mod sample;
 mod seats;
 mod swap;
-#[cfg(test)]
-mod tests;
 
 pub use laws::exchange_law;
 pub use parcel::Parcel;

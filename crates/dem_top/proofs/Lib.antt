@@ -1,15 +1,2 @@
-pub mod LeftFacts
-pub mod SceneFacts
-pub mod JobFacts
-pub mod AnswerFacts
 pub mod StreamFacts
-pub mod TurnFacts
-pub mod StandFacts
 pub mod ThreadFacts
-pub mod ListsFacts
-pub mod InputFacts
-pub mod MarkFacts
-pub mod ComparedFacts
-pub mod PackedFacts
-pub mod ResumedFacts
-pub mod SummaryFacts

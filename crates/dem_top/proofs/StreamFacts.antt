@@ -5,12 +5,12 @@ use Rattle.std.proofs.KnownBytes.{Appends-kept, Keeps-trans}
 use Rattle.dem_outside.specs.Known.{AppendsPrefix}
 use Rattle.dem_outside.specs.Change.{Change, IsKept, Gains, GainsPrefix}
 use Rattle.dem_outside.proofs.Prefixes.{AppendsPrefix-kept, AppendsPrefix-whole}
-use Rattle.dem_top.specs.Verdicts.{Verdict, read_failed_text, out_text}
-use Rattle.dem_top.specs.Jobs.{Job, ForTold}
-use Rattle.dem_top.specs.Answers.{Fulfils, Begins, FailsToRead, IsVerdict, IsCutShort, IsUnwritten, Answers}
+use Rattle.dem_jobs.specs.Verdicts.{Verdict, read_failed_text, out_text}
+use Rattle.dem_jobs.specs.Jobs.{Job, ForTold}
+use Rattle.dem_jobs.specs.Answers.{Fulfils, Begins, FailsToRead, IsVerdict, IsCutShort, IsUnwritten, Answers}
 use Rattle.dem_top.specs.Streams.{passed, with_rest, Serves}
-use Rattle.dem_top.proofs.LeftFacts.{ForTold-weaker}
-use Rattle.dem_top.proofs.JobFacts.{gain-starts}
+use Rattle.dem_jobs.proofs.LeftFacts.{ForTold-weaker}
+use Rattle.dem_jobs.proofs.JobFacts.{gain-starts}
 
 -- ---- a buffer before a writer
 

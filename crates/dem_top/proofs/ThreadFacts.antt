@@ -14,9 +14,9 @@ use Rattle.dem_output.specs.declared.running.RunFault.{RunFault}
 use Rattle.dem_output.specs.declared.running.RunFault.TheVariants as runs
 use Rattle.dem_crew.specs.Running.{HasRun, HasNoted, HasRunFaults}
 use Rattle.dem_crew.specs.declared.ran.Ran.{Ran}
-use Rattle.dem_top.specs.Verdicts.{OfThreads}
-use Rattle.dem_top.specs.Parts.{HasBegun, RunsThreads, stop_by}
-use Rattle.dem_top.proofs.AnswerFacts.{between}
+use Rattle.dem_jobs.specs.Verdicts.{OfThreads}
+use Rattle.dem_jobs.specs.Parts.{HasBegun, RunsThreads, stop_by}
+use Rattle.dem_jobs.proofs.AnswerFacts.{between}
 
 module _ (s : SceneValue) (drift : ℕ) (a b from to : Stream) where
   -- the run was made

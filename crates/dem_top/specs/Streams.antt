@@ -2,9 +2,9 @@
 use Rattle.std.specs.Prelude.{◌≡◌, ℕ, ◌≤◌, List, Option, ◌⊎◌}
 use Rattle.std.specs.Io.KnownBytes.{append_known}
 use Rattle.dem_outside.specs.Change.{Change, IsKept, Gains, GainsPrefix}
-use Rattle.dem_top.specs.Verdicts.{read_failed_text}
-use Rattle.dem_top.specs.Jobs.{Job, ForTold}
-use Rattle.dem_top.specs.Answers.{Fulfils, Begins, IsVerdict, IsCutShort}
+use Rattle.dem_jobs.specs.Verdicts.{read_failed_text}
+use Rattle.dem_jobs.specs.Jobs.{Job, ForTold}
+use Rattle.dem_jobs.specs.Answers.{Fulfils, Begins, IsVerdict, IsCutShort}
 
 -- a writer before and after, by the bytes that it holds where they are known; it counts nothing
 abbrev pub passed : Option (List ℕ) → Option (List ℕ) → Change

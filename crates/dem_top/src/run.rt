@@ -2,14 +2,13 @@
 ghost use Rattle.std.specs.Prelude.{◌≡◌, ◌+◌};
 ghost use Rattle.dem_outside.specs.Change.{change, LosesAtMost};
 ghost use Rattle.dem_model.specs.declared.limits.TheConstants as limits;
-ghost use Rattle.dem_top.specs.Jobs.{run_job};
-ghost use Rattle.dem_top.specs.Parts.{Does, Comes};
-ghost use Rattle.dem_top.specs.Verdicts.{threads_of};
+ghost use Rattle.dem_jobs.specs.Jobs.{run_job};
+ghost use Rattle.dem_jobs.specs.Parts.{Does, Comes};
+ghost use Rattle.dem_jobs.specs.Verdicts.{threads_of};
 
-use crate::outcome::{NotDone, Outcome};
-use crate::reading::read_one_scene;
 use crate::threads::write_by_threads;
 use dem_bins::Grid;
+use dem_jobs::{NotDone, Outcome, read_one_scene};
 use dem_model::Scene;
 use dem_outside::{BlankSink, Gate, Sink, Source};
 use dem_shape::Shapes;

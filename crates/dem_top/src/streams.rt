@@ -3,11 +3,11 @@ ghost use Rattle.std.specs.Prelude.{◌≡◌, ◌⊎◌, [], IfSome, None};
 ghost use Rattle.std.specs.Io.KnownBytes.{Keeps, append_known};
 ghost use Rattle.std.specs.Io.Buffered.{writer_contents};
 ghost use Rattle.dem_words.specs.Meaning.{words_of};
-ghost use Rattle.dem_top.specs.Jobs.{job_meant};
+ghost use Rattle.dem_jobs.specs.Jobs.{job_meant};
 ghost use Rattle.dem_top.specs.Streams.{passed, Serves};
 
-use crate::status::{OUT_OF_MEMORY, WRITE_FAILED};
 use crate::top::main_call;
+use dem_jobs::{OUT_OF_MEMORY, WRITE_FAILED};
 use dem_outside::{Gate, RealSink, RealSource};
 use std::alloc::Global;
 use std::io::{BufWriter, Read, Write};

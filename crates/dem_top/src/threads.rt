@@ -2,7 +2,7 @@
 ghost use Rattle.std.specs.Prelude.{◌≡◌, ◌<◌};
 ghost use Rattle.dem_outside.specs.Change.{change};
 ghost use Rattle.dem_bins.specs.Bins.{IsGridOf};
-ghost use Rattle.dem_top.specs.Parts.{RunsThreads, stop_by};
+ghost use Rattle.dem_jobs.specs.Parts.{RunsThreads, stop_by};
 
 use dem_bins::Grid;
 use dem_core::WorldStop;

@@ -3,21 +3,11 @@ ghost use Rattle.std.specs.Prelude.{◌≡◌};
 ghost use Rattle.dem_outside.specs.Change.{change};
 ghost use Rattle.dem_words.specs.Meaning.{words_of};
 ghost use Rattle.dem_words.specs.declared.order.Mode.TheVariants as modes;
-ghost use Rattle.dem_top.specs.Jobs.{run_job, job_of, job_meant, Takes};
-ghost use Rattle.dem_top.specs.Parts.{Does};
-ghost use Rattle.dem_top.specs.Answers.{Answers};
+ghost use Rattle.dem_jobs.specs.Jobs.{run_job, job_of, job_meant};
+ghost use Rattle.dem_jobs.specs.Answers.{Answers};
 
-use crate::comparison::compare;
-use crate::looking::inspect;
-use crate::made::summarize;
-use crate::outcome::{NotDone, Outcome, tell};
-use crate::packing::fill;
-use crate::plain::plain;
-use crate::refusal::{Refusal, refuse};
-use crate::resuming::resume;
 use crate::run::run;
-use crate::sched::sched;
-use crate::status::OUT_OF_MEMORY;
+use dem_jobs::{OUT_OF_MEMORY, Refusal, carry_out, refuse, tell};
 use dem_outside::{Gate, Sink, Source};
 use dem_words::{Mode, Order, WordFault, read_words};
 use std::alloc::Global;
@@ -113,29 +103,4 @@ fn answer<S: Source, K: Sink, N: Sink>(
         (change N.held N.faults note.old note.new) result }
 {
     tell(carry_out(alloc, order, source, out, note), note)
-}
-
-// Does the job of an order.
-fn carry_out<S: Source, K: Sink, N: Sink>(
-    alloc: Global,
-    order: &Order,
-    source: &mut S,
-    out: &mut K,
-    note: &mut N,
-) -> Result<Outcome, NotDone>
-    requires alone { ¬ (order.now.mode ≡ modes.Run) }
-    ensures does { Does (job_of order.now) (change S.left S.faults source.old source.new) (change K.held K.faults out.old out.new)
-        (change N.held N.faults note.old note.new) result }
-    ensures taken { Takes (job_of order.now).limit (change S.left S.faults source.old source.new) }
-{
-    match order.mode {
-        Mode::Plain => plain(alloc, source, out),
-        Mode::Sched => sched(alloc, order, source, out, note),
-        Mode::Check => compare(alloc, source, out),
-        Mode::Gen => summarize(alloc, order, out),
-        Mode::Pack => fill(alloc, order, source, out),
-        Mode::Resume => resume(alloc, source, out),
-        Mode::Look => inspect(alloc, source, out),
-        Mode::Run => Err(NotDone::Refused(Refusal::Usage)),
-    }
 }

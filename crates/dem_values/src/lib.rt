@@ -5,6 +5,10 @@
 #![tactic(auto)]
 
 #[cfg(test)]
+mod command_lines;
+#[cfg(test)]
+mod exchanges;
+#[cfg(test)]
 mod forces;
 #[cfg(test)]
 mod frames;

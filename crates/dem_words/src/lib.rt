@@ -13,6 +13,3 @@ mod words;
 
 pub use order::{Mode, Order, WordFault};
 pub use words::read_words;
-
-#[cfg(test)]
-mod tests;

@@ -28,7 +28,7 @@ pub enum Mode {
     Check,
     /// A summary of the run of a made scene.
     Gen,
-    /// A run that goes on from a frame of its output.
+    /// A run of a scene that goes on from a frame: from any rows that are fit for the scene.
     Resume,
     /// A row of values for each frame of a run.
     Look,

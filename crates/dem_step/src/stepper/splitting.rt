@@ -18,13 +18,13 @@ impl<'s> Dyn<'s> {
         requires { CanStep self.old }
         ensures { SplitsOnList self.old self.new result }
     {
+        self.met = false;
         self.prepared.make(self.shapes, &self.bodies);
-        let left = steps_left(self.contacts.list().from(), self.step, self.drift);
         self.marks.renew(
             self.shapes,
             &self.prepared.spheres.centers,
             self.contacts.list(),
-            left,
+            steps_left(self.contacts.list().from(), self.step, self.drift),
         );
         if let Err(OutOfMemory) = self.split.gather(self.shapes) {
             return Err(SplitStop::OutOfMemory);
@@ -76,7 +76,7 @@ impl<'s> Dyn<'s> {
         }
     }
 
-    /// Makes the step of `step` by several threads where memory is had, and else by this one.
+    /// Makes the step of `step` by several threads where its pairs weren't met ahead and memory is had, and else by this one.
     fn step_by<R: Threads + Sync, L: Ledger>(
         &mut self,
         rt: &R,
@@ -86,6 +86,9 @@ impl<'s> Dyn<'s> {
         ensures step { StepsOnList self.old self.new result }
         ensures counted { tests.new ≤ tests.old + length self.old.contacts.list.pairs }
     {
+        if self.met {
+            return self.step(tests);
+        }
         match self.step_split(rt) {
             Ok(()) => Ok(()),
             Err(SplitStop::Ended(end)) => Err(end),

@@ -2,7 +2,8 @@ use Rattle.std.proofs.Common.{◌≡◌, ◌<◌, ℕ, List, Some, length}
 use Rattle.csv.specs.Reading.{Reached, Ready, default_config, source_of, strip_bom}
 use Rattle.csv.specs.declared.parser.State.TheVariants as st
 use Rattle.csv.specs.declared.reader.Trim.TheVariants as trim
-use Rattle.dem_frame.specs.PartialFrames.{read_on, nothing_read}
+use Rattle.dem_frame.specs.PartialFrames.{nothing_read}
+use Rattle.dem_frame.proofs.PartialFacts.{read_on}
 use Rattle.dem_frame.proofs.read.read_frame.Given as goal
 
 abbrev pub invariant-loop-row : goal.invariant-loop-row

@@ -1,21 +1,23 @@
-use Rattle.std.proofs.Common.{◌≡◌, get_or, sym, ◌∙◌, arith}
-use Rattle.std.proofs.lemmas.Map.Keys.{Less-from_sorted}
-use Rattle.std.proofs.lemmas.Option.{get_or_from_slice_get}
-use Rattle.std.specs.declared.cmp.Ordering.TheVariants.{Less}
-use Rattle.dem_model.specs.declared.state.Pair.{Pair}
-use Rattle.dem_model.specs.Pairs.{pair_cmp}
-use Rattle.dem_hist.proofs.CarryFacts.{AllBefore-later, carried-more, carried-all}
+use Rattle.std.proofs.Common.{subst, ◌∙◌, arith}
+use Rattle.dem_hist.specs.Inside.{IsStretch}
+use Rattle.dem_hist.proofs.CarryFacts.{AllBefore-all, AllBefore-stretch, entry-none, carried-more, carried-stretch, carried-all}
 use Rattle.dem_hist.proofs.carry.fill.Goals as goal
+
+pub loop-j-preserved-then-count-eq0 : goal.loop-j-preserved-then-count-eq0
+loop-j-preserved-then-count-eq0 c = record {
+  filled =
+      let on : IsStretch c.args.old.now.pairs c.reached-at.result c.args.new.now.pairs c.loop-j.j 0 = subst (λ n. IsStretch c.args.old.now.pairs c.reached-at.result c.args.new.now.pairs c.loop-j.j n) c.if-count-eq0.true c.stretch-count.ensures in
+      c.in_ok-pushed.ensures ∙ carried-more _ _ _ _ _ _ _ c.loop-j.invariant.filled c.get.ensures (entry-none _ _ _ _ _ _ c.len-pairs.ensures.ascending c.reached-at.ensures on c.get.ensures);
+  within = c.reached-at.ensures.within;
+  before = λ m d le lt. AllBefore-all _ _ _ _ _ c.len.ensures.ascending c.get.ensures c.reached-at.ensures.before m d (omega (arith, le)) lt;
+}
 
 pub loop-j-preserved : goal.loop-j-preserved
 loop-j-preserved c = record {
-  filled = c.in_ok-pushed.ensures ∙ carried-more _ _ _ _ _ _ _ c.loop-j.invariant.filled c.get-pair.ensures c.entry_for-entry.ensures;
-  within = c.reached-at.ensures.within;
-  before = λ m d le lt.
-      let is : get_or c.args.new.now.pairs c.loop-j.j d ≡ c.get-pair.result = get_or_from_slice_get c.args.new.now.pairs c.loop-j.j c.get-pair.result d c.get-pair.ensures in
-      let less : pair_cmp (get_or c.args.new.now.pairs c.loop-j.j d) (get_or c.args.new.now.pairs m d) ≡ Less = Less-from_sorted {K = Pair} pair_cmp c.args.new.now.pairs c.loop-j.j m d c.len-j-end.ensures.ascending (omega arith) lt in
-      AllBefore-later _ _ c.get-pair.result _ c.reached-at.ensures.before (rw (is) at less);
+  filled = c.in_ok-appended.ensures ∙ carried-stretch _ _ _ _ _ _ _ c.len-pairs.ensures.ascending c.requires c.stretch-count.ensures c.loop-j.invariant.filled;
+  within = c.stretch-count.ensures.old_within;
+  before = AllBefore-stretch _ _ _ _ _ c.len.ensures.ascending c.stretch-count.ensures (AllBefore-all _ _ _ _ _ c.len.ensures.ascending c.get.ensures c.reached-at.ensures.before);
 }
 
 pub returns : goal.returns
-returns c = carried-all _ _ _ _ _ c.loop-j.invariant.filled (omega (arith, c.loop-j-test.false, c.len-j-end.ensures.value))
+returns c = carried-all _ _ _ _ _ c.loop-j.invariant.filled (omega (arith, c.loop-j-test.false, c.len.ensures.value))

@@ -1,4 +1,4 @@
-use Rattle.std.proofs.Common.{◌≡◌, ℕ, ◌<◌, ◌≤◌, length, map, take, get_or}
+use Rattle.std.proofs.Common.{◌≡◌, ℕ, ◌<◌, ◌≤◌, ◌-◌, length, map, take, get_or}
 use Rattle.dem_model.specs.declared.state.Pair.{Pair}
 use Rattle.dem_model.specs.Step.{held_at}
 use Rattle.dem_model.specs.Carry.{kept_of}
@@ -11,3 +11,6 @@ invariant-loop-j l = record {
   within : l.at ≤ length l.old.pairs;
   before : (m : ℕ) (d : Pair) → l.j ≤ m → m < length l.new.pairs → AllBefore l.old.pairs l.at (get_or l.new.pairs m d);
 }
+
+abbrev pub decreases-loop-j : goal.decreases-loop-j
+decreases-loop-j l = length l.new.pairs - l.j

@@ -2,8 +2,9 @@ use Rattle.std.proofs.Common.{◌≡◌, ℕ, ◌<◌, ◌≤◌, ap, ◌∙◌,
 use Rattle.std.proofs.lemmas.Result.{err_from_is_err_and}
 use Rattle.dem_model.specs.SceneValue.{SceneValue}
 use Rattle.dem_model.specs.declared.state.State.{State}
+use Rattle.dem_output.proofs.LoopFacts.{Rose-from}
 use Rattle.dem_look.proofs.LookFacts.{StandsLooking-done, LacksEnd-closed, LacksEnd-failed}
-use Rattle.dem_look.proofs.LoopFacts.{begun, not-begun, goes-on, comes-nearer, comes-to-end, stopped, Rose-from}
+use Rattle.dem_look.proofs.LoopFacts.{begun, not-begun, goes-on, comes-nearer, comes-to-end, stopped}
 use Rattle.dem_look.proofs.looking.look_on.Goals as goal
 
 -- the loop's test read the number of the run's state

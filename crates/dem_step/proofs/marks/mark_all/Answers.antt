@@ -1,4 +1,4 @@
-use Rattle.std.proofs.Common.{◌≡◌, length, refl, sym, ap, ◌∙◌, arith}
+use Rattle.std.proofs.Common.{refl, ◌∙◌, arith}
 use Rattle.dem_model.specs.Motion.{IsPair}
 use Rattle.dem_margin.specs.Marks.{may_touch}
 use Rattle.dem_step.proofs.RoomFacts.{all-read, length-set}

@@ -22,17 +22,17 @@ loop-i-init c = (
   omega arith,
 )
 
-pub meet-entry-requires-clause-pair : goal.meet-entry-requires-clause-pair
-meet-entry-requires-clause-pair c =
+pub meet_pair-entry-requires-clause-pair : goal.meet_pair-entry-requires-clause-pair
+meet_pair-entry-requires-clause-pair c =
     all-read (IsPair c.args.shapes.now) c.args.contacts.now.list.pairs c.loop-i.i c.get-pair.result c.requires.ready.pairs.each
     (ap (λ (l : Pairs). slice_get l.pairs c.loop-i.i) (sym c.list.ensures.value) ∙ c.get-pair.ensures)
 
-pub meet-entry-requires-clause-held : goal.meet-entry-requires-clause-held
-meet-entry-requires-clause-held c =
+pub meet_pair-entry-requires-clause-held : goal.meet_pair-entry-requires-clause-held
+meet_pair-entry-requires-clause-held c =
     all-read (λ (e : Option Vec3). IsStored e) c.args.contacts.now.entries c.loop-i.i c.held-held.result c.requires.ready.within c.held-held.ensures
 
-pub meet-entry-requires-clause-loads : goal.meet-entry-requires-clause-loads
-meet-entry-requires-clause-loads c =
+pub meet_pair-entry-requires-clause-loads : goal.meet_pair-entry-requires-clause-loads
+meet_pair-entry-requires-clause-loads c =
     loads-between c.args.shapes.now c.args.bodies.now c.args.spheres.now.centers (held_by c.args.contacts.now) c.args.contacts.now.list.pairs c.args.from c.loop-i.i c.loop-i.loads c.loop-i.fresh c.requires.ready.pairs
     c.loop-i.invariant.0
 
@@ -50,8 +50,8 @@ loop-i-preserved c =
           ∙ get_or_from_slice_get c.args.contacts.now.entries c.loop-i.i w.held-held.result None w.held-held.ensures in
           rw (w.loads-is, w.fresh-is) (
             between-more c.args.shapes.now c.args.bodies.now c.args.spheres.now.centers (held_by c.args.contacts.now) c.args.contacts.now.list.pairs c.args.from c.loop-i.i w.get-pair.result w.held-held.result
-                c.loop-i.loads w.meet-entry.new.loads c.loop-i.fresh w.meet-entry.result c.loop-i.invariant.2 there held room w.meet-entry.ensures.loads w.meet-entry.ensures.entry w.meet-entry.ensures.small c.loop-i.invariant.0,
-            length-set c.loop-i.fresh (c.loop-i.i - c.args.from) w.meet-entry.result ∙ c.loop-i.invariant.1,
+                c.loop-i.loads w.meet_pair-entry.new.loads c.loop-i.fresh w.meet_pair-entry.result c.loop-i.invariant.2 there held room w.meet_pair-entry.ensures.loads w.meet_pair-entry.ensures.entry w.meet_pair-entry.ensures.small c.loop-i.invariant.0,
+            length-set c.loop-i.fresh (c.loop-i.i - c.args.from) w.meet_pair-entry.result ∙ c.loop-i.invariant.1,
             omega (arith, c.loop-i.invariant.2),
           )
       | else-is_met w ↦

@@ -1,8 +1,8 @@
 use Rattle.std.proofs.lemmas.Result.{err_from_is_err_and}
 use Rattle.dem_outside.specs.Change.{change}
-use Rattle.dem_top.specs.Verdicts.{threads_of, threads_verdict}
-use Rattle.dem_top.proofs.JobFacts.{scene-undone, scene-done}
-use Rattle.dem_top.proofs.ListsFacts.{threads-each}
+use Rattle.dem_jobs.specs.Verdicts.{threads_of, threads_verdict}
+use Rattle.dem_jobs.proofs.JobFacts.{scene-undone, scene-done}
+use Rattle.dem_jobs.proofs.ListsFacts.{threads-each}
 use Rattle.dem_top.proofs.run.run.Goals as goal
 
 pub returns-in_err-scene-clause-does : goal.returns-in_err-scene-clause-does

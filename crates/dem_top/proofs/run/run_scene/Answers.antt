@@ -1,9 +1,9 @@
 use Rattle.std.proofs.Common.{refl, None, Ok, Err}
 use Rattle.std.proofs.lemmas.Result.{err_from_is_err_and}
 use Rattle.dem_outside.specs.Change.{Change, change}
-use Rattle.dem_top.specs.Verdicts.{threads_of}
-use Rattle.dem_top.proofs.JobFacts.{begins-nothing}
-use Rattle.dem_top.proofs.ListsFacts.{by-threads, scene-refused, scene-noted, scene-cut, scene-silent, scene-silent-cut, zero-calm}
+use Rattle.dem_jobs.specs.Verdicts.{threads_of}
+use Rattle.dem_jobs.proofs.JobFacts.{begins-nothing}
+use Rattle.dem_jobs.proofs.ListsFacts.{by-threads, scene-refused, scene-noted, scene-cut, scene-silent, scene-silent-cut, zero-calm}
 use Rattle.dem_top.proofs.run.run_scene.Goals as goal
 
 pub returns-in_err-shapes : goal.returns-in_err-shapes

@@ -1,6 +1,6 @@
 use Rattle.std.proofs.Common.{◌≡◌, List, ℕ, [], ⊎_elim, sym, subst}
 use Rattle.dem_words.specs.Meaning.{words_of}
-use Rattle.dem_top.specs.Jobs.{job_meant}
+use Rattle.dem_jobs.specs.Jobs.{job_meant}
 use Rattle.dem_top.specs.Streams.{passed, Serves}
 use Rattle.dem_top.proofs.StreamFacts.{served, unserved}
 use Rattle.dem_top.proofs.streams.stream_call.Goals as goal

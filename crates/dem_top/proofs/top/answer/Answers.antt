@@ -1,6 +1,6 @@
 use Rattle.dem_outside.specs.Change.{change}
-use Rattle.dem_top.specs.Jobs.{job_of}
-use Rattle.dem_top.proofs.AnswerFacts.{answered}
+use Rattle.dem_jobs.specs.Jobs.{job_of}
+use Rattle.dem_jobs.proofs.AnswerFacts.{answered}
 use Rattle.dem_top.proofs.top.answer.Goals as goal
 
 pub returns : goal.returns

@@ -1,6 +1,6 @@
 use Rattle.dem_outside.specs.Change.{change}
-use Rattle.dem_top.specs.Jobs.{run_job}
-use Rattle.dem_top.proofs.AnswerFacts.{answered}
+use Rattle.dem_jobs.specs.Jobs.{run_job}
+use Rattle.dem_jobs.proofs.AnswerFacts.{answered}
 use Rattle.dem_top.proofs.top.answer_by_threads.Goals as goal
 
 pub returns : goal.returns

@@ -1,7 +1,7 @@
 use Rattle.dem_outside.specs.Change.{change}
 use Rattle.dem_words.specs.Meaning.{words_of}
-use Rattle.dem_top.specs.Jobs.{job_meant}
-use Rattle.dem_top.proofs.AnswerFacts.{usage-told, no-words}
+use Rattle.dem_jobs.specs.Jobs.{job_meant}
+use Rattle.dem_jobs.proofs.AnswerFacts.{usage-told, no-words}
 use Rattle.dem_top.proofs.top.main_call.Goals as goal
 
 pub returns-in-Err-Usage : goal.returns-in-Err-Usage

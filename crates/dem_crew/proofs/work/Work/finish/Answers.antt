@@ -1,4 +1,4 @@
-use Rattle.std.proofs.Common.{◌≡◌, ℕ, List, Option, subst}
+use Rattle.std.proofs.Common.{ℕ, List, Option, subst}
 use Rattle.dem_outside.specs.Known.{AppendsPrefix}
 use Rattle.dem_model.specs.Output.{output_of}
 use Rattle.dem_model.specs.SceneValue.{SceneValue}

@@ -1,8 +1,7 @@
-use Rattle.std.proofs.Common.{◌≡◌, ◌+◌, true, ℕ, List, Option, length, ap, ◌∙◌, arith, rules}
+use Rattle.std.proofs.Common.{◌≡◌, true, ℕ, List, Option, arith, rules}
 use Rattle.dem_outside.specs.Known.{AppendsPrefix}
 use Rattle.dem_model.specs.Output.{output_of}
 use Rattle.dem_model.specs.World.{may_step}
-use Rattle.dem_core.specs.Courses.{Running}
 use Rattle.dem_crew.specs.Working.{IsKeptUp}
 use Rattle.dem_crew.proofs.WorkFacts.{on-err, few-stepped, run-tests, at_work-stepped, kept-stepped, prefix-stepped}
 use Rattle.dem_crew.proofs.NotedFacts.{noted-kept}

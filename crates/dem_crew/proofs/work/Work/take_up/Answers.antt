@@ -1,4 +1,4 @@
-use Rattle.std.proofs.Common.{◌≡◌, ◌+◌, ◌≤◌, sym, subst, arith}
+use Rattle.std.proofs.Common.{◌+◌, ◌≤◌, sym, subst, arith}
 use Rattle.dem_model.specs.World.{with_list}
 use Rattle.dem_core.specs.Courses.{Running}
 use Rattle.dem_crew.specs.Working.{lists_by}

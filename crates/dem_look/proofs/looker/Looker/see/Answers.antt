@@ -29,10 +29,10 @@ find_busiest-contacts-requires c =
 pub returns-clause-value : goal.returns-clause-value
 returns-clause-value c before shows =
     let fits : FitsSigned w64 c.highest.result = search rules in
-    let flag_size : length c.flag_lows.new.flags ≡ c.self.inside.now.len = omega (arith, c.flag_lows.auto.flags, c.as_mut_slice.ensures.len) in
+    let flag_size : length c.flag_lows.new.flags ≡ c.self.inside.next.len = omega (arith, c.flag_lows.auto.flags, c.as_mut_slice.ensures.len) in
     let count_size : length c.count_contacts.new.counts ≡ c.self.inside.counts.len = omega (arith, c.count_contacts.auto.counts, c.as_mut_slice-2.ensures.len) in
     let flags : c.as_slice-3.result.now ≡ lows_of c.args.shapes.now c.args.state.now =
-    c.as_slice-3.ensures.value ∙ with_items_is c.self.inside.now c.flag_lows.new.flags flag_size ∙ c.flag_lows.ensures in
+    c.as_slice-3.ensures.value ∙ with_items_is c.self.inside.next c.flag_lows.new.flags flag_size ∙ c.flag_lows.ensures in
     let counts : c.as_slice-4.result.now ≡ counts_of c.args.shapes.now c.args.state.now.held =
     c.as_slice-4.ensures.value ∙ with_items_is c.self.inside.counts c.count_contacts.new.counts count_size ∙ c.count_contacts.ensures ∙ ap (counts_of c.args.shapes.now) c.as_slice.ensures in
     let view = ap (λ (v : LookerValue). v.lows) c.self.view_is in

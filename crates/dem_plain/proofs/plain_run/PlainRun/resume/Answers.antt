@@ -15,5 +15,5 @@ at-requires-clause-plain c = λ e. absurd (true≢false (sym e))
 
 pub returns : goal.returns
 returns c =
-    let begun : SceneValue → Run = λ s. record { scene = s; state = c.args.state; whole = false } in
+    let begun : SceneValue → Run = λ s. record { scene = s; state = c.args.state; from_first = false } in
     subst (λ (s : SceneValue). IfOk c.at.result (λ run. run ≡ begun s)) c.in_ok-shapes.ensures c.at.ensures

@@ -11,12 +11,12 @@ stepped-requires-clause-sides c =
 
 pub invariant_of-self : goal.invariant_of-self
 invariant_of-self c =
-    run_next c.self.inside.shapes c.self.inside.spheres c.fill.new.self c.self.inside.state c.in-Ok.next c.self.inside.whole c.self.invariant
+    run_next c.self.inside.shapes c.self.inside.spheres c.fill.new.self c.self.inside.state c.in-Ok.next c.self.inside.from_first c.self.invariant
     (filled_places c.self.inside.shapes c.as_slice.result.now c.fill.new.self c.fill.ensures.matrices c.fill.ensures.centers c.fill.ensures.sides)
     (subst (λ (r : Run). r.state.step < r.scene.steps) (sym c.self.view_is) c.requires)
     c.in-Ok.ensures
 
 pub invariant_of-self-in-Err : goal.invariant_of-self-in-Err
 invariant_of-self-in-Err c =
-    run_kept c.self.inside.shapes c.self.inside.spheres c.fill.new.self c.self.inside.state c.self.inside.whole c.self.invariant
+    run_kept c.self.inside.shapes c.self.inside.spheres c.fill.new.self c.self.inside.state c.self.inside.from_first c.self.invariant
     (filled_places c.self.inside.shapes c.as_slice.result.now c.fill.new.self c.fill.ensures.matrices c.fill.ensures.centers c.fill.ensures.sides)

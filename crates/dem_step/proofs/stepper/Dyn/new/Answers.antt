@@ -1,4 +1,4 @@
-use Rattle.std.proofs.Common.{length, false, refl, sym, ap, ◌∙◌, subst, arith}
+use Rattle.std.proofs.Common.{◌≡◌, length, true, false, refl, sym, ap, ◌∙◌, subst, arith}
 use Rattle.std.proofs.lemmas.List.{length-replicate}
 use Rattle.dem_model.specs.Plain.{first_state}
 use Rattle.dem_model.specs.Step.{no_load}
@@ -22,6 +22,7 @@ invariant_of-result c = (
   },
   prepared_first _ _ _ c.in_ok-new-2.ensures,
   marks_none c.args.shapes.now 0 _ c.new-2.result.list.pairs c.new-3.result c.new-3.ensures (omega (arith, ap (λ (h : HeldByPlace). length h.list.pairs) c.new-2.ensures)),
+  λ (no : false ≡ true). cc,
 )
 
 pub returns : goal.returns

@@ -1,4 +1,4 @@
-use Rattle.std.proofs.Common.{◌≡◌, ◌+◌, ◌<◌, ◌≤◌, List, length, take, sym, ap, ◌∙◌, subst, arith, Ok, Err, Option}
+use Rattle.std.proofs.Common.{true, false, ◌≡◌, ◌+◌, ◌<◌, ◌≤◌, List, length, take, sym, ap, ◌∙◌, subst, arith, Ok, Err, Option}
 use Rattle.std.specs.Option.{IsSomeAnd}
 use Rattle.std.specs.Prelude.{All}
 use Rattle.std.proofs.lemmas.List.{with_items_is}
@@ -27,24 +27,24 @@ use Rattle.dem_step.proofs.MarkFacts.{AreRenewed, marks_now, marks_next, marks_r
 use Rattle.dem_step.proofs.PreparedFacts.{prepared_kept, prepared_past}
 use Rattle.dem_step.proofs.stepper.Dyn.step_split.Goals as goal
 
-pub steps_left-left-requires-clause-past : goal.steps_left-left-requires-clause-past
-steps_left-left-requires-clause-past g c =
+pub steps_left-requires-clause-past : goal.steps_left-requires-clause-past
+steps_left-requires-clause-past g c =
     let can : IsUsable c.self.inside.shapes.now c.self.inside.drift c.self.inside.step c.self.inside.contacts.list =
     usable c.self.inside.shapes.now c.self.inside.drift c.self.inside.step c.self.inside.listed c.self.inside.bodies c.self.inside.contacts c.self.invariant.0
     (subst (λ (r : Stepper). IsSomeAnd r.from (λ from. r.state.step ≤ from + r.drift)) (sym c.self.view_is) c.requires.listed) in
-    let from : c.from.result ≡ c.self.inside.contacts.list.from = c.from.ensures ∙ ap (λ (l : Pairs). l.from) c.list.ensures.value in
+    let from : c.from.result ≡ c.self.inside.contacts.list.from = c.from.ensures ∙ ap (λ (l : Pairs). l.from) c.list-2.ensures.value in
     omega (arith, can.past, from)
 
-pub steps_left-left-requires-clause-young : goal.steps_left-left-requires-clause-young
-steps_left-left-requires-clause-young g c =
+pub steps_left-requires-clause-young : goal.steps_left-requires-clause-young
+steps_left-requires-clause-young g c =
     let can : IsUsable c.self.inside.shapes.now c.self.inside.drift c.self.inside.step c.self.inside.contacts.list =
     usable c.self.inside.shapes.now c.self.inside.drift c.self.inside.step c.self.inside.listed c.self.inside.bodies c.self.inside.contacts c.self.invariant.0
     (subst (λ (r : Stepper). IsSomeAnd r.from (λ from. r.state.step ≤ from + r.drift)) (sym c.self.view_is) c.requires.listed) in
-    let from : c.from.result ≡ c.self.inside.contacts.list.from = c.from.ensures ∙ ap (λ (l : Pairs). l.from) c.list.ensures.value in
+    let from : c.from.result ≡ c.self.inside.contacts.list.from = c.from.ensures ∙ ap (λ (l : Pairs). l.from) c.list-2.ensures.value in
     omega (arith, can.late, from)
 
 pub renew-requires-clause-room : goal.renew-requires-clause-room
-renew-requires-clause-room g c = omega (arith, c.self.invariant.3.room, ap (λ (l : Pairs). length l.pairs) c.list-2.ensures.value)
+renew-requires-clause-room g c = omega (arith, c.self.invariant.3.room, ap (λ (l : Pairs). length l.pairs) c.list.ensures.value)
 
 pub renew-requires-clause-centers : goal.renew-requires-clause-centers
 renew-requires-clause-centers g c =
@@ -53,10 +53,10 @@ renew-requires-clause-centers g c =
 
 pub renew-requires-clause-pairs : goal.renew-requires-clause-pairs
 renew-requires-clause-pairs g c =
-    subst (λ (l : Pairs). All (IsPair c.self.inside.shapes.now) l.pairs) (sym c.list-2.ensures.value) c.self.invariant.0.contacts_are.pairs.each
+    subst (λ (l : Pairs). All (IsPair c.self.inside.shapes.now) l.pairs) (sym c.list.ensures.value) c.self.invariant.0.contacts_are.pairs.each
 
 pub renew-requires-clause-left : goal.renew-requires-clause-left
-renew-requires-clause-left g c = omega (arith, c.steps_left-left.ensures.size, c.self.invariant.0.drift_le)
+renew-requires-clause-left g c = omega (arith, c.steps_left.ensures.size, c.self.invariant.0.drift_le)
 
 pub meet_split-requires-clause-marks : goal.meet_split-requires-clause-marks
 meet_split-requires-clause-marks g c κs within = omega (arith, c.self.invariant.3.room, c.renew.ensures.room)
@@ -66,12 +66,12 @@ meet_split-requires-clause-marked g c κs within =
     let can : IsUsable c.self.inside.shapes.now c.self.inside.drift c.self.inside.step c.self.inside.contacts.list =
     usable c.self.inside.shapes.now c.self.inside.drift c.self.inside.step c.self.inside.listed c.self.inside.bodies c.self.inside.contacts c.self.invariant.0
     (subst (λ (r : Stepper). IsSomeAnd r.from (λ from. r.state.step ≤ from + r.drift)) (sym c.self.view_is) c.requires.listed) in
-    let from : c.from.result ≡ c.self.inside.contacts.list.from = c.from.ensures ∙ ap (λ (l : Pairs). l.from) c.list.ensures.value in
+    let from : c.from.result ≡ c.self.inside.contacts.list.from = c.from.ensures ∙ ap (λ (l : Pairs). l.from) c.list-2.ensures.value in
     let stay : StayMarked c.self.inside.shapes.now c.self.inside.step (c.self.inside.contacts.list.from + c.self.inside.drift) c.self.inside.contacts.list.pairs c.renew.new.self =
-    marks_renewed c.self.inside.shapes.now c.self.inside.step c.steps_left-left.result (c.self.inside.contacts.list.from + c.self.inside.drift) c.self.inside.contacts.list.pairs c.self.inside.marks c.renew.new.self
-    c.self.inside.bodies c.make.new.self.spheres.centers c.self.invariant.3 (c.steps_left-left.ensures.value ∙ ap (λ n. n + c.self.inside.drift) from) c.self.invariant.0.plain c.self.invariant.0.bodies_are c.make.ensures.centers_are
+    marks_renewed c.self.inside.shapes.now c.self.inside.step c.steps_left.result (c.self.inside.contacts.list.from + c.self.inside.drift) c.self.inside.contacts.list.pairs c.self.inside.marks c.renew.new.self
+    c.self.inside.bodies c.make.new.self.spheres.centers c.self.invariant.3 (c.steps_left.ensures.value ∙ ap (λ n. n + c.self.inside.drift) from) c.self.invariant.0.plain c.self.invariant.0.bodies_are c.make.ensures.centers_are
     can.pairs.each c.renew.ensures.room
-    (subst (λ (l : Pairs). AreRenewed c.self.inside.shapes.now c.steps_left-left.result c.make.new.self.spheres.centers l.pairs c.self.inside.marks c.renew.new.self) c.list-2.ensures.value c.renew.ensures.right) in
+    (subst (λ (l : Pairs). AreRenewed c.self.inside.shapes.now c.steps_left.result c.make.new.self.spheres.centers l.pairs c.self.inside.marks c.renew.new.self) c.list.ensures.value c.renew.ensures.right) in
     marks_now c.self.inside.shapes.now c.self.inside.step (c.self.inside.contacts.list.from + c.self.inside.drift) c.self.inside.contacts.list.pairs c.renew.new.self c.self.inside.bodies c.make.new.self.spheres.centers
     stay can.late c.self.invariant.0.plain c.self.invariant.0.bodies_are c.make.ensures.centers_are
 
@@ -120,12 +120,12 @@ invariant_of-self-in-Err-advance_all g c =
     let fresh_size : length c.meet_split.new.fresh ≡ c.self.inside.fresh.len = omega (arith, c.meet_split.auto.fresh, c.as_mut_slice-2.ensures.len) in
     let load_count : length c.meet_split.new.loads ≡ length c.self.inside.shapes.now.clumps = omega (arith, size, ap length c.as_mut_slice.ensures.value, c.meet_split.auto.loads, c.self.invariant.1.load_each) in
     let fresh_count : length c.self.inside.contacts.list.pairs ≤ length c.meet_split.new.fresh = omega (arith, ap length c.as_mut_slice-2.ensures.value, c.meet_split.auto.fresh, c.self.invariant.1.entry_each) in
-    let from : c.from.result ≡ c.self.inside.contacts.list.from = c.from.ensures ∙ ap (λ (l : Pairs). l.from) c.list.ensures.value in
+    let from : c.from.result ≡ c.self.inside.contacts.list.from = c.from.ensures ∙ ap (λ (l : Pairs). l.from) c.list-2.ensures.value in
     let stay : StayMarked c.self.inside.shapes.now c.self.inside.step (c.self.inside.contacts.list.from + c.self.inside.drift) c.self.inside.contacts.list.pairs c.renew.new.self =
-    marks_renewed c.self.inside.shapes.now c.self.inside.step c.steps_left-left.result (c.self.inside.contacts.list.from + c.self.inside.drift) c.self.inside.contacts.list.pairs c.self.inside.marks c.renew.new.self
-    c.self.inside.bodies c.make.new.self.spheres.centers c.self.invariant.3 (c.steps_left-left.ensures.value ∙ ap (λ n. n + c.self.inside.drift) from) c.self.invariant.0.plain c.self.invariant.0.bodies_are c.make.ensures.centers_are
+    marks_renewed c.self.inside.shapes.now c.self.inside.step c.steps_left.result (c.self.inside.contacts.list.from + c.self.inside.drift) c.self.inside.contacts.list.pairs c.self.inside.marks c.renew.new.self
+    c.self.inside.bodies c.make.new.self.spheres.centers c.self.invariant.3 (c.steps_left.ensures.value ∙ ap (λ n. n + c.self.inside.drift) from) c.self.invariant.0.plain c.self.invariant.0.bodies_are c.make.ensures.centers_are
     can.pairs.each c.renew.ensures.room
-    (subst (λ (l : Pairs). AreRenewed c.self.inside.shapes.now c.steps_left-left.result c.make.new.self.spheres.centers l.pairs c.self.inside.marks c.renew.new.self) c.list-2.ensures.value c.renew.ensures.right) in (
+    (subst (λ (l : Pairs). AreRenewed c.self.inside.shapes.now c.steps_left.result c.make.new.self.spheres.centers l.pairs c.self.inside.marks c.renew.new.self) c.list.ensures.value c.renew.ensures.right) in (
       c.self.invariant.0,
       record {
         load_each = ap length (with_items_is c.self.inside.loads c.meet_split.new.loads size) ∙ load_count;
@@ -134,6 +134,7 @@ invariant_of-self-in-Err-advance_all g c =
       },
       prepared_kept _ _ _ c.self.invariant.0.sound c.make.ensures,
       stay,
+      λ (no : false ≡ true). cc,
     )
 
 pub returns-in-Err-advance_all : goal.returns-in-Err-advance_all
@@ -177,12 +178,12 @@ invariant_of-self-in-Ok g c =
     let items = with_items_is c.self.inside.fresh c.meet_split.new.fresh fresh_size in
     let taken : c.exchange.new.self ≡ record { list = c.self.inside.contacts.list; entries = take (length c.self.inside.contacts.list.pairs) c.meet_split.new.fresh } =
     c.exchange.ensures.taken ∙ ap (λ (es : List (Option Vec3)). let h : HeldByPlace = record { list = c.self.inside.contacts.list; entries = take (length c.self.inside.contacts.list.pairs) es } in h) items in
-    let from : c.from.result ≡ c.self.inside.contacts.list.from = c.from.ensures ∙ ap (λ (l : Pairs). l.from) c.list.ensures.value in
+    let from : c.from.result ≡ c.self.inside.contacts.list.from = c.from.ensures ∙ ap (λ (l : Pairs). l.from) c.list-2.ensures.value in
     let stay : StayMarked c.self.inside.shapes.now c.self.inside.step (c.self.inside.contacts.list.from + c.self.inside.drift) c.self.inside.contacts.list.pairs c.renew.new.self =
-    marks_renewed c.self.inside.shapes.now c.self.inside.step c.steps_left-left.result (c.self.inside.contacts.list.from + c.self.inside.drift) c.self.inside.contacts.list.pairs c.self.inside.marks c.renew.new.self
-    c.self.inside.bodies c.make.new.self.spheres.centers c.self.invariant.3 (c.steps_left-left.ensures.value ∙ ap (λ n. n + c.self.inside.drift) from) c.self.invariant.0.plain c.self.invariant.0.bodies_are c.make.ensures.centers_are
+    marks_renewed c.self.inside.shapes.now c.self.inside.step c.steps_left.result (c.self.inside.contacts.list.from + c.self.inside.drift) c.self.inside.contacts.list.pairs c.self.inside.marks c.renew.new.self
+    c.self.inside.bodies c.make.new.self.spheres.centers c.self.invariant.3 (c.steps_left.ensures.value ∙ ap (λ n. n + c.self.inside.drift) from) c.self.invariant.0.plain c.self.invariant.0.bodies_are c.make.ensures.centers_are
     can.pairs.each c.renew.ensures.room
-    (subst (λ (l : Pairs). AreRenewed c.self.inside.shapes.now c.steps_left-left.result c.make.new.self.spheres.centers l.pairs c.self.inside.marks c.renew.new.self) c.list-2.ensures.value c.renew.ensures.right) in (
+    (subst (λ (l : Pairs). AreRenewed c.self.inside.shapes.now c.steps_left.result c.make.new.self.spheres.centers l.pairs c.self.inside.marks c.renew.new.self) c.list.ensures.value c.renew.ensures.right) in (
       subst (λ (h : HeldByPlace). IsStepper c.self.inside.shapes.now c.self.inside.drift (c.self.inside.step + 1) c.self.inside.listed c.swap.new.x h) (sym taken)
           (subst (λ (bs : List Body). IsStepper c.self.inside.shapes.now c.self.inside.drift (c.self.inside.step + 1) c.self.inside.listed bs (record { list = c.self.inside.contacts.list; entries = take (length c.self.inside.contacts.list.pairs) c.meet_split.new.fresh })) (sym c.swap.ensures.x_after)
           (stepper-next c.self.inside.shapes.now c.self.inside.drift c.self.inside.step c.self.inside.listed c.self.inside.bodies c.advance_all.new.next c.self.inside.contacts.list c.self.inside.contacts.entries c.meet_split.new.fresh (held_by c.self.inside.contacts) c.make.new.self.spheres.centers c.meet_split.new.loads
@@ -195,6 +196,7 @@ invariant_of-self-in-Ok g c =
       prepared_past c.self.inside.shapes.now c.self.inside.bodies _ c.make.new.self.unpacked c.make.new.self.spheres c.self.invariant.0.sound c.make.ensures,
       subst (λ (h : HeldByPlace). StayMarked c.self.inside.shapes.now (c.self.inside.step + 1) (h.list.from + c.self.inside.drift) h.list.pairs c.renew.new.self) (sym taken)
           (marks_next c.self.inside.shapes.now c.self.inside.step (c.self.inside.contacts.list.from + c.self.inside.drift) c.self.inside.contacts.list.pairs c.renew.new.self stay),
+      λ (no : false ≡ true). cc,
     )
 
 pub returns-in-Ok : goal.returns-in-Ok
@@ -235,14 +237,15 @@ pub invariant_of-self : goal.invariant_of-self
 invariant_of-self g c =
     let can : IsUsable c.self.inside.shapes.now c.self.inside.drift c.self.inside.step c.self.inside.contacts.list =
     usable c.self.inside.shapes.now c.self.inside.drift c.self.inside.step c.self.inside.listed c.self.inside.bodies c.self.inside.contacts c.self.invariant.0 (subst (λ (r : Stepper). IsSomeAnd r.from (λ from. r.state.step ≤ from + r.drift)) (sym c.self.view_is) c.requires.listed) in
-    let from : c.from.result ≡ c.self.inside.contacts.list.from = c.from.ensures ∙ ap (λ (l : Pairs). l.from) c.list.ensures.value in
+    let from : c.from.result ≡ c.self.inside.contacts.list.from = c.from.ensures ∙ ap (λ (l : Pairs). l.from) c.list-2.ensures.value in
     let stay : StayMarked c.self.inside.shapes.now c.self.inside.step (c.self.inside.contacts.list.from + c.self.inside.drift) c.self.inside.contacts.list.pairs c.renew.new.self =
-    marks_renewed c.self.inside.shapes.now c.self.inside.step c.steps_left-left.result (c.self.inside.contacts.list.from + c.self.inside.drift) c.self.inside.contacts.list.pairs c.self.inside.marks c.renew.new.self
-    c.self.inside.bodies c.make.new.self.spheres.centers c.self.invariant.3 (c.steps_left-left.ensures.value ∙ ap (λ n. n + c.self.inside.drift) from) c.self.invariant.0.plain c.self.invariant.0.bodies_are c.make.ensures.centers_are
+    marks_renewed c.self.inside.shapes.now c.self.inside.step c.steps_left.result (c.self.inside.contacts.list.from + c.self.inside.drift) c.self.inside.contacts.list.pairs c.self.inside.marks c.renew.new.self
+    c.self.inside.bodies c.make.new.self.spheres.centers c.self.invariant.3 (c.steps_left.ensures.value ∙ ap (λ n. n + c.self.inside.drift) from) c.self.invariant.0.plain c.self.invariant.0.bodies_are c.make.ensures.centers_are
     can.pairs.each c.renew.ensures.room
-    (subst (λ (l : Pairs). AreRenewed c.self.inside.shapes.now c.steps_left-left.result c.make.new.self.spheres.centers l.pairs c.self.inside.marks c.renew.new.self) c.list-2.ensures.value c.renew.ensures.right) in (
+    (subst (λ (l : Pairs). AreRenewed c.self.inside.shapes.now c.steps_left.result c.make.new.self.spheres.centers l.pairs c.self.inside.marks c.renew.new.self) c.list.ensures.value c.renew.ensures.right) in (
       c.self.invariant.0,
       c.self.invariant.1,
       prepared_kept _ _ _ c.self.invariant.0.sound c.make.ensures,
       stay,
+      λ (no : false ≡ true). cc,
     )

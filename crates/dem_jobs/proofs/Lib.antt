@@ -1,0 +1,13 @@
+pub mod LeftFacts
+pub mod SceneFacts
+pub mod JobFacts
+pub mod AnswerFacts
+pub mod TurnFacts
+pub mod StandFacts
+pub mod ListsFacts
+pub mod InputFacts
+pub mod MarkFacts
+pub mod ComparedFacts
+pub mod PackedFacts
+pub mod ResumedFacts
+pub mod SummaryFacts

@@ -1,0 +1,11 @@
+pub mod TurnNotes
+pub mod Verdicts
+pub mod Marks
+pub mod Compared
+pub mod Packed
+pub mod Resumed
+pub mod Summaries
+pub mod Jobs
+pub mod Answers
+pub mod Refusals
+pub mod Parts

@@ -1,7 +1,0 @@
-use Rattle.std.proofs.Common.{◌≡◌, ◌≤◌, length, take}
-use Rattle.std.specs.Prelude.{filter}
-use Rattle.dem_top.specs.Summaries.{touches}
-use Rattle.dem_top.proofs.summary.count_in.Given as goal
-
-abbrev pub invariant-loop-i : goal.invariant-loop-i
-invariant-loop-i g l = (l.count ≡ length (filter (touches l.shapes l.centers) (take l.i l.list.pairs))) × (l.count ≤ l.i)

@@ -1,5 +1,0 @@
-use Rattle.dem_top.proofs.SummaryFacts.{SumsSoFar}
-use Rattle.dem_top.proofs.summary.position_sum.Given as goal
-
-abbrev pub invariant-loop-body : goal.invariant-loop-body
-invariant-loop-body l = SumsSoFar l.bodies l.body-index l.sum

@@ -1,4 +1,0 @@
-use Rattle.dem_top.proofs.turns.write_by_turns.Given as goal
-
-abbrev pub ghosts-counted : goal.ghosts-counted
-ghosts-counted g a = record { name = a.blank.name; parts = a.blank.parts }

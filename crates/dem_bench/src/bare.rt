@@ -47,7 +47,7 @@ fn turned(start: u64, thousands: u32) -> u64 {
     let mut number = start;
     for _ in 0..thousands {
         for _ in 0..1000 {
-            number = number.wrapping_mul(48_271).wrapping_add(11);
+            number = number.wrapping_mul(number).wrapping_add(11);
         }
     }
     number

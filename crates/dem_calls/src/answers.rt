@@ -63,8 +63,7 @@ fn all<R: Threads + Sync, L: Ledger>(
     requires some { 0 < L.parts }
 {
     let mut tests = Steps::<L>::new(blank);
-    let run = Dyn::new(alloc, shapes, DRIFT)?;
-    let finds = all_finds(alloc, &run, &mut tests)?;
+    let finds = first_finds(alloc, shapes, &mut tests)?;
     let stand = steps_lead::<R, L>(alloc, None, shapes, &mut tests)?;
     let split = steps_lead(alloc, Some(rt), shapes, &mut tests)?;
     let turns = try_turns(alloc, shapes, DRIFT, &mut tests)?;
@@ -84,8 +83,28 @@ fn steps_lead<R: Threads + Sync, L: Ledger>(
     tests: &mut Steps<L>,
 ) -> Result<Stand, OutOfMemory> {
     let mut run = Dyn::new(alloc, shapes, DRIFT)?;
-    go_on_one_list(alloc, threads, &mut run, tests)?;
-    Stand::of(alloc, &run)
+    stand_after(alloc, threads, &mut run, tests)
+}
+
+/// Where steps of a run on one list lead.
+fn stand_after<R: Threads + Sync, L: Ledger>(
+    alloc: Global,
+    threads: Option<&R>,
+    run: &mut Dyn,
+    tests: &mut Steps<L>,
+) -> Result<Stand, OutOfMemory> {
+    go_on_one_list(alloc, threads, run, tests)?;
+    Stand::of(alloc, run)
+}
+
+/// What bins of each side find for the first state.
+fn first_finds<L: Ledger>(
+    alloc: Global,
+    shapes: &Shapes,
+    tests: &mut Steps<L>,
+) -> Result<Vec<Found>, OutOfMemory> {
+    let run = Dyn::new(alloc, shapes, DRIFT)?;
+    all_finds(alloc, &run, tests)
 }
 
 /// What bins of each side find for the state of a run.

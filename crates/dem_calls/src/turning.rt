@@ -45,22 +45,31 @@ pub fn try_turns<L: Ledger>(
 ) -> Result<Turned, WorldStop>
     requires { drift ≤ 1024 }
 {
-    let mut made = Vec::new(alloc);
     let Ok(grid) = Grid::check(shapes, drift, 0) else {
         return Ok(Turned {
-            made,
+            made: Vec::new(alloc),
             last: None,
             tests: 0,
         });
     };
     let mut world = World::new(alloc, shapes, &grid, &mut BlankSink)?;
+    tried_on(alloc, &mut world, tests)
+}
+
+/// Tries the turns on a world, and lets it go on to its end.
+fn tried_on<L: Ledger>(
+    alloc: Global,
+    world: &mut World,
+    tests: &mut Steps<L>,
+) -> Result<Turned, WorldStop> {
+    let mut made = Vec::new(alloc);
     for turn in TURNS {
-        let did = one(&mut world, turn, tests)?;
+        let did = one(world, turn, tests)?;
         if made.push(Made { turn, did }).is_err() {
             return Err(WorldStop::OutOfMemory);
         }
     }
-    let last = rest(&mut world, tests)?;
+    let last = rest(world, tests)?;
     Ok(Turned {
         made,
         last: Some(last),

@@ -201,3 +201,14 @@ carried-all ps es xs new j filled past = filled ∙ ap (map (held_at (kept_of ps
 pub length-carried : (ps : List Pair) (es : List (Option Vec3)) (new : List Pair) → length (carried ps es new) ≡ length new
 unfolding carried
 length-carried ps es new = length-map new (held_at (kept_of ps es))
+
+-- the first elements and the one at the next place
+pub taken-next : {X : Type 0} (xs : List X) (k : ℕ) (x : X) → slice_get xs k ≡ Some x → take (k + 1) xs ≡ take k xs ++ x ∷ []
+taken-next xs k x there =
+    let lt : k < length xs = slice_get_within xs k x there in
+    rw (add-one) (take-suc xs k x lt ∙ ap (λ q. take k xs ++ q ∷ []) (get_or_from_slice_get xs k x x there))
+
+-- carried to a list of the same pairs, each entry stays
+pub carried-same : (ps : List Pair) (es : List (Option Vec3)) (new : List Pair) → IsAscending ps → length es ≡ length ps → ps ≡ new → es ≡ carried ps es new
+unfolding carried
+carried-same ps es new s same is = sym (carried-itself ps es s same) ∙ ap (map (held_at (kept_of ps es))) is

@@ -1,12 +1,27 @@
 //! One walk of the old list and the new: what is held of each pair of the new one.
 
-ghost use Rattle.std.specs.Prelude.{◌≡◌, ◌≤◌, ◌++◌, [], ◌∷◌, length, OnOk};
+ghost use Rattle.std.specs.Prelude.{◌≡◌, ◌≤◌, ◌++◌, [], ◌∷◌, true, length, OnOk};
 ghost use Rattle.dem_model.specs.Carry.{carried};
 ghost use Rattle.dem_hist.specs.Inside.{AllBefore, IsReached, IsStretch};
 
 use dem_list::{PairList, is_before};
 use dem_model::{OutOfMemory, Pair};
 use dem_num::Vec3;
+
+/// Whether two lists have the same pairs.
+pub fn are_same(list: &PairList, other: &PairList) -> bool
+    ensures { result ≡ true → list.now.pairs ≡ other.now.pairs }
+{
+    if list.len() != other.len() {
+        return false;
+    }
+    for i in 0..list.len() {
+        if list.get(i) != other.get(i) {
+            return false;
+        }
+    }
+    true
+}
 
 /// The first place from `at` on whose pair doesn't come before `pair`.
 fn reached(old: &PairList, mut at: u32, pair: Pair) -> u32

@@ -4,7 +4,7 @@ ghost use Rattle.std.specs.Prelude.{◌≡◌, ◌<◌, ◌≤◌, [], length, t
 ghost use Rattle.dem_model.specs.Carry.{carried};
 ghost use Rattle.dem_hist.specs.Carrying.{HeldByPlace};
 
-use crate::carry::fill;
+use crate::carry::{are_same, fill};
 use dem_list::PairList;
 use dem_model::OutOfMemory;
 use dem_num::Vec3;
@@ -74,13 +74,18 @@ impl Contacts {
     }
 
     /// Takes the next list into use: a pair in both keeps its entry, a pair only in the new one has None.
-    /// The old list comes back; after a refusal nothing has changed and the very list `new` comes back.
+    /// The old list comes back; after a refusal nothing has changed and the very list `new` comes back. Where both have the same pairs,
+    /// no entry is touched.
     pub fn carry(&mut self, new: PairList) -> Result<PairList, (PairList, OutOfMemory)>
         ensures carried { OnOk result (self.new ≡ record { list = new; entries = carried self.old.list.pairs self.old.entries new.pairs }) }
         ensures old_list { IfOk result (λ list. list ≡ self.old.list) }
         ensures unchanged { OnErr result (self.new ≡ self.old) }
         ensures new_list { IfErr result (λ refused. refused.0 ≡ new) }
     {
+        let _pairs = self.pairs.len();
+        if are_same(&self.pairs, &new) {
+            return Ok(std::mem::replace(&mut self.pairs, new));
+        }
         match fill(&mut self.spare, &self.pairs, self.entries.as_slice(), &new) {
             Ok(()) => {
                 std::mem::swap(&mut self.entries, &mut self.spare);

@@ -9,4 +9,5 @@
 mod carry;
 mod contacts;
 
+pub use carry::are_same;
 pub use contacts::Contacts;

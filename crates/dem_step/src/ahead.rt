@@ -13,7 +13,7 @@ ghost use Rattle.dem_step.specs.Inside.{loads_after, displacement_of, IsSmallMee
 
 use crate::meeting::meet_pair;
 use dem_force::Spheres;
-use dem_hist::Contacts;
+use dem_hist::{Contacts, are_same};
 use dem_list::PairList;
 use dem_model::{Body, Load, Pair};
 use dem_num::Vec3;
@@ -43,7 +43,9 @@ pub fn hand_on(
     ensures room { length contacts.now.list.pairs ≤ length fresh.new.items }
 {
     if !is_met {
-        std::mem::swap(fresh, spare);
+        if fresh.len() < contacts.list().len() as usize {
+            std::mem::swap(fresh, spare);
+        }
         return;
     }
     if are_same(old, contacts.list()) {
@@ -61,21 +63,6 @@ pub fn hand_on(
         contacts,
     );
     std::mem::swap(fresh, spare);
-}
-
-/// Whether two lists have the same pairs.
-fn are_same(list: &PairList, other: &PairList) -> bool
-    ensures { result ≡ true → list.now.pairs ≡ other.now.pairs }
-{
-    if list.len() != other.len() {
-        return false;
-    }
-    for i in 0..list.len() {
-        if list.get(i) != other.get(i) {
-            return false;
-        }
-    }
-    true
 }
 
 /// Puts what the pairs of the list in use come to, where those of the old one have met. What is in the old list alone doesn't touch.

@@ -1,4 +1,4 @@
-//! Which pairs of the list in use a step looks at: all, until the list has served for some steps, and then those that may touch.
+//! Which pairs of the list in use a step looks at: all, until marks are made, and then those that may touch.
 
 ghost use Rattle.std.specs.Prelude.{ℕ, ◌≡◌, ◌⊎◌, ◌<◌, ◌≤◌, true, false, All, Some, OnOk, length, slice_get, slice_index_or};
 ghost use Rattle.dem_model.specs.Motion.{AreInside, IsPair};
@@ -14,15 +14,11 @@ use dem_model::OutOfMemory;
 use dem_shape::{Centers, Shapes};
 use std::alloc::Global;
 
-/// How many steps a list serves before marks are made: one that serves for no more has no use of them.
-const UNMARKED: u32 = 2;
-
 /// A mark per place of the list in use: whether its pair may touch in what is left of the list's life. Until they are made
 /// each pair may.
 #[derive(Drop)]
 pub struct Marks {
     pub made: bool,
-    pub wait: u32,
     pub may: Vec<bool>,
 }
 
@@ -33,7 +29,6 @@ impl Marks {
     {
         Marks {
             made: false,
-            wait: UNMARKED,
             may: Vec::new(alloc),
         }
     }
@@ -54,7 +49,6 @@ impl Marks {
         ensures room { self.new.may ≡ self.old.may }
     {
         self.made = false;
-        self.wait = UNMARKED;
     }
 
     /// Whether the pair at a place is looked at.
@@ -65,7 +59,28 @@ impl Marks {
         !self.made || self.may[i as usize]
     }
 
-    /// Makes the marks once the list has served for some steps, from where the spheres are and how many steps it is used yet.
+    /// As `renew`; but where the pairs have met already, it leaves the marks as they are.
+    pub fn renew_unless(
+        &mut self,
+        has_met: bool,
+        shapes: &Shapes,
+        centers: &Centers,
+        list: &PairList,
+        left: u32,
+    )
+        requires room { length list.now.pairs ≤ length self.old.may.items }
+        requires centers { AreInside shapes.now centers.now }
+        requires pairs { All (IsPair shapes.now) list.now.pairs }
+        requires left { left ≤ MAX_DRIFT }
+        ensures room { length self.new.may.items ≡ length self.old.may.items }
+        ensures right { (i : ℕ) (p : Pair) → slice_get list.now.pairs i ≡ Some p → is_met self.new i ≡ false → (is_met self.old i ≡ false) ⊎ (may shapes.now left centers.now p ≡ false) }
+    {
+        if !has_met {
+            self.renew(shapes, centers, list, left);
+        }
+    }
+
+    /// Makes the marks, where none are made for the list, from where the spheres are and how many steps it is used yet.
     pub fn renew(&mut self, shapes: &Shapes, centers: &Centers, list: &PairList, left: u32)
         requires room { length list.now.pairs ≤ length self.old.may.items }
         requires centers { AreInside shapes.now centers.now }
@@ -77,12 +92,8 @@ impl Marks {
         if self.made {
             return;
         }
-        if self.wait > 0 {
-            self.wait -= 1;
-        } else {
-            mark_all(self.may.as_mut_slice(), shapes, centers, list, left);
-            self.made = true;
-        }
+        mark_all(self.may.as_mut_slice(), shapes, centers, list, left);
+        self.made = true;
     }
 }
 

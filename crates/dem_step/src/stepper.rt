@@ -180,7 +180,8 @@ impl<'s> Dyn<'s> {
     {
         self.prepared.make(self.shapes, &self.bodies);
         let left = steps_left(self.contacts.list().from(), self.step, self.drift);
-        self.marks.renew(
+        self.marks.renew_unless(
+            self.met,
             self.shapes,
             &self.prepared.spheres.centers,
             self.contacts.list(),

@@ -44,23 +44,23 @@ steps_left-left-requires-clause-young g c =
     let from : c.from.result ≡ c.self.inside.contacts.list.from = c.from.ensures ∙ ap (λ (l : Pairs). l.from) c.list.ensures.value in
     omega (arith, can.late, from)
 
-pub renew-requires-clause-room : goal.renew-requires-clause-room
-renew-requires-clause-room g c = omega (arith, c.self.invariant.3.room, ap (λ (l : Pairs). length l.pairs) c.list-2.ensures.value)
+pub renew_unless-requires-clause-room : goal.renew_unless-requires-clause-room
+renew_unless-requires-clause-room g c = omega (arith, c.self.invariant.3.room, ap (λ (l : Pairs). length l.pairs) c.list-2.ensures.value)
 
-pub renew-requires-clause-centers : goal.renew-requires-clause-centers
-renew-requires-clause-centers g c =
+pub renew_unless-requires-clause-centers : goal.renew_unless-requires-clause-centers
+renew_unless-requires-clause-centers g c =
     subst (AreInside c.self.inside.shapes.now) (sym c.make.ensures.centers_are)
     (centers_of-inside c.self.inside.shapes.now c.self.inside.bodies c.self.invariant.0.scene c.self.invariant.0.sound)
 
-pub renew-requires-clause-pairs : goal.renew-requires-clause-pairs
-renew-requires-clause-pairs g c =
+pub renew_unless-requires-clause-pairs : goal.renew_unless-requires-clause-pairs
+renew_unless-requires-clause-pairs g c =
     subst (λ (l : Pairs). All (IsPair c.self.inside.shapes.now) l.pairs) (sym c.list-2.ensures.value) c.self.invariant.0.contacts_are.pairs.each
 
-pub renew-requires-clause-left : goal.renew-requires-clause-left
-renew-requires-clause-left g c = omega (arith, c.steps_left-left.ensures.size, c.self.invariant.0.drift_le)
+pub renew_unless-requires-clause-left : goal.renew_unless-requires-clause-left
+renew_unless-requires-clause-left g c = omega (arith, c.steps_left-left.ensures.size, c.self.invariant.0.drift_le)
 
 pub meet_unless-requires-clause-marks : goal.meet_unless-requires-clause-marks
-meet_unless-requires-clause-marks g c = omega (arith, c.self.invariant.3.room, c.renew.ensures.room)
+meet_unless-requires-clause-marks g c = omega (arith, c.self.invariant.3.room, c.renew_unless.ensures.room)
 
 pub meet_unless-requires-clause-marked : goal.meet_unless-requires-clause-marked
 meet_unless-requires-clause-marked g c =
@@ -68,12 +68,12 @@ meet_unless-requires-clause-marked g c =
     usable c.self.inside.shapes.now c.self.inside.drift c.self.inside.step c.self.inside.listed c.self.inside.bodies c.self.inside.contacts c.self.invariant.0
     (subst (λ (r : Stepper). IsSomeAnd r.from (λ from. r.state.step ≤ from + r.drift)) (sym c.self.view_is) c.requires.listed) in
     let from : c.from.result ≡ c.self.inside.contacts.list.from = c.from.ensures ∙ ap (λ (l : Pairs). l.from) c.list.ensures.value in
-    let stay : StayMarked c.self.inside.shapes.now c.self.inside.step (c.self.inside.contacts.list.from + c.self.inside.drift) c.self.inside.contacts.list.pairs c.renew.new.self =
-    marks_renewed c.self.inside.shapes.now c.self.inside.step c.steps_left-left.result (c.self.inside.contacts.list.from + c.self.inside.drift) c.self.inside.contacts.list.pairs c.self.inside.marks c.renew.new.self
+    let stay : StayMarked c.self.inside.shapes.now c.self.inside.step (c.self.inside.contacts.list.from + c.self.inside.drift) c.self.inside.contacts.list.pairs c.renew_unless.new.self =
+    marks_renewed c.self.inside.shapes.now c.self.inside.step c.steps_left-left.result (c.self.inside.contacts.list.from + c.self.inside.drift) c.self.inside.contacts.list.pairs c.self.inside.marks c.renew_unless.new.self
     c.self.inside.bodies c.make.new.self.spheres.centers c.self.invariant.3 (c.steps_left-left.ensures.value ∙ ap (λ n. n + c.self.inside.drift) from) c.self.invariant.0.plain c.self.invariant.0.bodies_are c.make.ensures.centers_are
-    can.pairs.each c.renew.ensures.room
-    (subst (λ (l : Pairs). AreRenewed c.self.inside.shapes.now c.steps_left-left.result c.make.new.self.spheres.centers l.pairs c.self.inside.marks c.renew.new.self) c.list-2.ensures.value c.renew.ensures.right) in
-    marks_now c.self.inside.shapes.now c.self.inside.step (c.self.inside.contacts.list.from + c.self.inside.drift) c.self.inside.contacts.list.pairs c.renew.new.self c.self.inside.bodies c.make.new.self.spheres.centers
+    can.pairs.each c.renew_unless.ensures.room
+    (subst (λ (l : Pairs). AreRenewed c.self.inside.shapes.now c.steps_left-left.result c.make.new.self.spheres.centers l.pairs c.self.inside.marks c.renew_unless.new.self) c.list-2.ensures.value c.renew_unless.ensures.right) in
+    marks_now c.self.inside.shapes.now c.self.inside.step (c.self.inside.contacts.list.from + c.self.inside.drift) c.self.inside.contacts.list.pairs c.renew_unless.new.self c.self.inside.bodies c.make.new.self.spheres.centers
     stay can.late c.self.invariant.0.plain c.self.invariant.0.bodies_are c.make.ensures.centers_are
 
 pub meet_unless-requires-clause-centers : goal.meet_unless-requires-clause-centers
@@ -127,11 +127,11 @@ invariant_of-self-in-Err g c =
     let load_count : length c.meet_unless.new.loads ≡ length c.self.inside.shapes.now.clumps = omega (arith, size, ap length c.as_mut_slice.ensures.value, c.meet_unless.auto.loads, c.self.invariant.1.load_each) in
     let fresh_count : length c.self.inside.contacts.list.pairs ≤ length c.meet_unless.new.fresh = omega (arith, ap length c.as_mut_slice-2.ensures.value, c.meet_unless.auto.fresh, c.self.invariant.1.entry_each) in
     let from : c.from.result ≡ c.self.inside.contacts.list.from = c.from.ensures ∙ ap (λ (l : Pairs). l.from) c.list.ensures.value in
-    let stay : StayMarked c.self.inside.shapes.now c.self.inside.step (c.self.inside.contacts.list.from + c.self.inside.drift) c.self.inside.contacts.list.pairs c.renew.new.self =
-    marks_renewed c.self.inside.shapes.now c.self.inside.step c.steps_left-left.result (c.self.inside.contacts.list.from + c.self.inside.drift) c.self.inside.contacts.list.pairs c.self.inside.marks c.renew.new.self
+    let stay : StayMarked c.self.inside.shapes.now c.self.inside.step (c.self.inside.contacts.list.from + c.self.inside.drift) c.self.inside.contacts.list.pairs c.renew_unless.new.self =
+    marks_renewed c.self.inside.shapes.now c.self.inside.step c.steps_left-left.result (c.self.inside.contacts.list.from + c.self.inside.drift) c.self.inside.contacts.list.pairs c.self.inside.marks c.renew_unless.new.self
     c.self.inside.bodies c.make.new.self.spheres.centers c.self.invariant.3 (c.steps_left-left.ensures.value ∙ ap (λ n. n + c.self.inside.drift) from) c.self.invariant.0.plain c.self.invariant.0.bodies_are c.make.ensures.centers_are
-    can.pairs.each c.renew.ensures.room
-    (subst (λ (l : Pairs). AreRenewed c.self.inside.shapes.now c.steps_left-left.result c.make.new.self.spheres.centers l.pairs c.self.inside.marks c.renew.new.self) c.list-2.ensures.value c.renew.ensures.right) in (
+    can.pairs.each c.renew_unless.ensures.room
+    (subst (λ (l : Pairs). AreRenewed c.self.inside.shapes.now c.steps_left-left.result c.make.new.self.spheres.centers l.pairs c.self.inside.marks c.renew_unless.new.self) c.list-2.ensures.value c.renew_unless.ensures.right) in (
       c.self.invariant.0,
       record {
         load_each = ap length (with_items_is c.self.inside.loads c.meet_unless.new.loads size) ∙ load_count;
@@ -188,11 +188,11 @@ invariant_of-self g c =
     let taken : c.exchange.new.self ≡ record { list = c.self.inside.contacts.list; entries = take (length c.self.inside.contacts.list.pairs) c.meet_unless.new.fresh } =
     c.exchange.ensures.taken ∙ ap (λ (es : List (Option Vec3)). let h : HeldByPlace = record { list = c.self.inside.contacts.list; entries = take (length c.self.inside.contacts.list.pairs) es } in h) items in
     let from : c.from.result ≡ c.self.inside.contacts.list.from = c.from.ensures ∙ ap (λ (l : Pairs). l.from) c.list.ensures.value in
-    let stay : StayMarked c.self.inside.shapes.now c.self.inside.step (c.self.inside.contacts.list.from + c.self.inside.drift) c.self.inside.contacts.list.pairs c.renew.new.self =
-    marks_renewed c.self.inside.shapes.now c.self.inside.step c.steps_left-left.result (c.self.inside.contacts.list.from + c.self.inside.drift) c.self.inside.contacts.list.pairs c.self.inside.marks c.renew.new.self
+    let stay : StayMarked c.self.inside.shapes.now c.self.inside.step (c.self.inside.contacts.list.from + c.self.inside.drift) c.self.inside.contacts.list.pairs c.renew_unless.new.self =
+    marks_renewed c.self.inside.shapes.now c.self.inside.step c.steps_left-left.result (c.self.inside.contacts.list.from + c.self.inside.drift) c.self.inside.contacts.list.pairs c.self.inside.marks c.renew_unless.new.self
     c.self.inside.bodies c.make.new.self.spheres.centers c.self.invariant.3 (c.steps_left-left.ensures.value ∙ ap (λ n. n + c.self.inside.drift) from) c.self.invariant.0.plain c.self.invariant.0.bodies_are c.make.ensures.centers_are
-    can.pairs.each c.renew.ensures.room
-    (subst (λ (l : Pairs). AreRenewed c.self.inside.shapes.now c.steps_left-left.result c.make.new.self.spheres.centers l.pairs c.self.inside.marks c.renew.new.self) c.list-2.ensures.value c.renew.ensures.right) in (
+    can.pairs.each c.renew_unless.ensures.room
+    (subst (λ (l : Pairs). AreRenewed c.self.inside.shapes.now c.steps_left-left.result c.make.new.self.spheres.centers l.pairs c.self.inside.marks c.renew_unless.new.self) c.list-2.ensures.value c.renew_unless.ensures.right) in (
       subst (λ (h : HeldByPlace). IsStepper c.self.inside.shapes.now c.self.inside.drift (c.self.inside.step + 1) c.self.inside.listed c.swap.new.x h) (sym taken)
           (subst (λ (bs : List Body). IsStepper c.self.inside.shapes.now c.self.inside.drift (c.self.inside.step + 1) c.self.inside.listed bs (record { list = c.self.inside.contacts.list; entries = take (length c.self.inside.contacts.list.pairs) c.meet_unless.new.fresh })) (sym c.swap.ensures.x_after)
           (stepper-next c.self.inside.shapes.now c.self.inside.drift c.self.inside.step c.self.inside.listed c.self.inside.bodies c.advance_all.new.next c.self.inside.contacts.list c.self.inside.contacts.entries c.meet_unless.new.fresh (held_by c.self.inside.contacts) c.make.new.self.spheres.centers c.meet_unless.new.loads
@@ -203,8 +203,8 @@ invariant_of-self g c =
         entry_each = omega (arith, ap (λ (h : HeldByPlace). length h.list.pairs) taken, ap length c.exchange.ensures.given, c.self.invariant.0.contacts_are.as_many);
       },
       prepared_past c.self.inside.shapes.now c.self.inside.bodies _ c.make.new.self.unpacked c.make.new.self.spheres c.self.invariant.0.sound c.make.ensures,
-      subst (λ (h : HeldByPlace). StayMarked c.self.inside.shapes.now (c.self.inside.step + 1) (h.list.from + c.self.inside.drift) h.list.pairs c.renew.new.self) (sym taken)
-          (marks_next c.self.inside.shapes.now c.self.inside.step (c.self.inside.contacts.list.from + c.self.inside.drift) c.self.inside.contacts.list.pairs c.renew.new.self stay),
+      subst (λ (h : HeldByPlace). StayMarked c.self.inside.shapes.now (c.self.inside.step + 1) (h.list.from + c.self.inside.drift) h.list.pairs c.renew_unless.new.self) (sym taken)
+          (marks_next c.self.inside.shapes.now c.self.inside.step (c.self.inside.contacts.list.from + c.self.inside.drift) c.self.inside.contacts.list.pairs c.renew_unless.new.self stay),
       λ (no : false ≡ true). cc,
     )
 

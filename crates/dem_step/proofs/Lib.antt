@@ -10,3 +10,4 @@ pub mod PreparedFacts
 pub mod SplitFacts
 pub mod AheadFacts
 pub mod HandFacts
+pub mod AddFacts

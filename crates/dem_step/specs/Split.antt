@@ -6,6 +6,7 @@ use Rattle.dem_model.specs.Step.{no_load, load_plus, step_of}
 use Rattle.dem_model.specs.declared.law.Load.{Load}
 use Rattle.dem_model.specs.declared.state.Body.{Body}
 use Rattle.dem_model.specs.declared.state.Pair.{Pair}
+use Rattle.dem_force.specs.Loads.{CanGrow}
 use Rattle.dem_force.specs.Sides.{AreSides}
 use Rattle.dem_force.specs.Stored.{IsStored}
 use Rattle.dem_force.specs.declared.pushing.spheres.Spheres.{Spheres}
@@ -31,6 +32,12 @@ pairs_between from to ps = take (to - from) (drop from ps)
 -- what a clump feels of two loads
 abbrev pub both_loads : Load → Load → Load
 both_loads w v = load_plus w v.force v.torque
+
+-- loads may be added place by place: there is one for each, and none is near a bound
+pub record CanBeAdded (loads others : List Load) : Type 0 where
+  pub size : length others ≡ length loads
+  pub first : (c : ℕ) → c < length loads → CanGrow (slice_index_or loads c no_load)
+  pub second : (c : ℕ) → c < length loads → CanGrow (slice_index_or others c no_load)
 
 -- up to a place each load is that of before and the other one at its place, and from there on as before
 pub record AreAdded (old others now : List Load) (i : ℕ) : Type 0 where

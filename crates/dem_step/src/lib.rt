@@ -10,6 +10,7 @@
 //! Takes memory: `Dyn::new`, `Dyn::adopt` and `Dyn::step_split`, never `Dyn::step`. Not here: which pairs are near (dem_margin), touch, law and advance (dem_force), carrying (dem_hist).
 #![tactic(auto)]
 
+mod adding;
 mod advancing;
 mod ahead;
 mod marks;

@@ -1,24 +1,25 @@
 //! The meetings of a step on a list, shared among threads: each sums those of a part of the list, and the sums are added.
 
-ghost use Rattle.std.specs.Prelude.{ℕ, ◌≡◌, ◌+◌, ◌<◌, ◌≤◌, All, length, slice_set, slice_index_or};
+ghost use Rattle.std.specs.Prelude.{◌≡◌, ◌+◌, ◌<◌, ◌≤◌, All, length};
 ghost use Rattle.std.specs.Thread.{IsSync};
 ghost use Rattle.dem_model.specs.Motion.{AreInside, IsPair};
-ghost use Rattle.dem_model.specs.Step.{meeting, no_load};
-ghost use Rattle.dem_force.specs.Loads.{AreLoads, CanGrow};
+ghost use Rattle.dem_model.specs.Step.{meeting};
+ghost use Rattle.dem_force.specs.Loads.{AreLoads};
 ghost use Rattle.dem_force.specs.Sides.{AreSides};
 ghost use Rattle.dem_force.specs.Stored.{IsStored};
 ghost use Rattle.dem_step.specs.Contacts.{ArePairs, held_by};
 ghost use Rattle.dem_step.specs.Inside.{loads_after, displacement_of, IsSmallMeeting, HaveMet};
 ghost use Rattle.dem_step.specs.Marks.{AreMarked};
-ghost use Rattle.dem_step.specs.Split.{pairs_between, both_loads, AreAdded, IsReady};
+ghost use Rattle.dem_step.specs.Split.{pairs_between, IsReady};
 
+use crate::adding::add_all;
 use crate::marks::Marks;
 use crate::meeting::{clear, meet_pair};
 use crate::room::make_room;
 use dem_force::Spheres;
 use dem_hist::Contacts;
 use dem_model::{Body, End, Load, OutOfMemory, Pair};
-use dem_num::{Vec3, WIDE_ZERO, add3};
+use dem_num::{Vec3, WIDE_ZERO};
 use dem_shape::Shapes;
 use rayon::join_mut;
 use std::alloc::Global;
@@ -169,7 +170,7 @@ fn meet_part<R: Threads + Sync>(
         front,
         back,
     );
-    add_all(loads, own);
+    add_all(rt, depth, loads, own);
     touching
 }
 
@@ -284,39 +285,4 @@ fn meet_range(
         }
     }
     touching
-}
-
-/// Adds to each load the one at its place.
-fn add_all(loads: &mut [Load], others: &[Load])
-    requires sizes { length others.now ≡ length loads.old }
-    requires first { (c : ℕ) → c < length loads.old → CanGrow (slice_index_or loads.old c no_load) }
-    requires second { (c : ℕ) → c < length loads.old → CanGrow (slice_index_or others.now c no_load) }
-    ensures added { AreAdded loads.old others.now loads.new (length loads.old) }
-{
-    for c in 0..loads.len() {
-        add_load(loads, c, others[c]);
-    }
-}
-
-/// Adds a load to the one at a place.
-fn add_load(loads: &mut [Load], c: usize, other: Load)
-    requires there { c < length loads.old }
-    requires first { CanGrow (slice_index_or loads.old c no_load) }
-    requires second { CanGrow other }
-    ensures { loads.new ≡ slice_set loads.old c (both_loads (slice_index_or loads.old c no_load) other) }
-{
-    let load = loads[c];
-    loads[c] = both(load, other);
-}
-
-/// What a clump feels of two loads.
-fn both(load: Load, other: Load) -> Load
-    requires first { CanGrow load }
-    requires second { CanGrow other }
-    ensures { result ≡ both_loads load other }
-{
-    Load {
-        force: add3(load.force, other.force),
-        torque: add3(load.torque, other.torque),
-    }
 }

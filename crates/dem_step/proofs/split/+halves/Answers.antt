@@ -6,16 +6,15 @@ use Rattle.dem_step.specs.Split.{pairs_between}
 use Rattle.dem_step.proofs.SplitFacts.{between-join, length-between, loads-between, HaveMet-join}
 use Rattle.dem_step.proofs.split.+halves.Goals as goal
 
-pub meet_part-add_all-requires-clause-first : goal.meet_part-add_all-requires-clause-first
-meet_part-add_all-requires-clause-first g t c =
-    let within = loads-between c.args.shapes.now c.args.bodies.now c.args.spheres.now.centers (held_by c.args.contacts.now) c.args.contacts.now.list.pairs _ _ _ _ c.requires.ready.pairs c.both_halves-touching.ensures.front in
-    λ k lt. within.each k (omega (arith, lt, within.count))
-
-pub meet_part-add_all-requires-clause-second : goal.meet_part-add_all-requires-clause-second
-meet_part-add_all-requires-clause-second g t c =
+pub meet_part-add_all-requires-clause-can : goal.meet_part-add_all-requires-clause-can
+meet_part-add_all-requires-clause-can g t c κs within =
     let first = loads-between c.args.shapes.now c.args.bodies.now c.args.spheres.now.centers (held_by c.args.contacts.now) c.args.contacts.now.list.pairs _ _ _ _ c.requires.ready.pairs c.both_halves-touching.ensures.front in
-    let within = loads-between c.args.shapes.now c.args.bodies.now c.args.spheres.now.centers (held_by c.args.contacts.now) c.args.contacts.now.list.pairs _ _ _ _ c.requires.ready.pairs c.both_halves-touching.ensures.back in
-    λ k lt. within.each k (omega (arith, lt, first.count))
+    let second = loads-between c.args.shapes.now c.args.bodies.now c.args.spheres.now.centers (held_by c.args.contacts.now) c.args.contacts.now.list.pairs _ _ _ _ c.requires.ready.pairs c.both_halves-touching.ensures.back in
+    record {
+      size = omega (arith, first.count, second.count);
+      first = λ k lt. first.each k (omega (arith, lt, first.count));
+      second = λ k lt. second.each k (omega (arith, lt, first.count));
+    }
 
 pub meet_part-returns-clause-met : goal.meet_part-returns-clause-met
 meet_part-returns-clause-met g t c =

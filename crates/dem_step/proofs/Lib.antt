@@ -8,6 +8,7 @@ pub mod MarkFacts
 pub mod StoredFacts
 pub mod PreparedFacts
 pub mod SplitFacts
+pub mod AdvanceFacts
 pub mod AheadFacts
 pub mod HandFacts
 pub mod AddFacts

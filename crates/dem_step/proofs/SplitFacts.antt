@@ -3,9 +3,9 @@ use Rattle.std.proofs.Common.{◌≡◌, ℕ, ◌+◌, ◌-◌, ◌<◌, ◌≤�
 use Rattle.std.specs.Prelude.{◌==◌, ◌+ℤ◌, pos, All, fold, slice_get, slice_set}
 use Rattle.std.specs.List.{cons_option}
 use Rattle.std.specs.Option.{option_map}
-use Rattle.std.proofs.lemmas.Bool.{cases_Bool, cases_lt}
+use Rattle.std.proofs.lemmas.Bool.{cases_Bool}
 use Rattle.std.proofs.lemmas.Int.{ints}
-use Rattle.std.proofs.lemmas.List.{ext_get_or, get_or-set_other, get_or-set_same, length-set, map-append, take_all, take-take, drop-take, drop-drop, get_or-drop, length-take-le, length-drop, take-append-drop}
+use Rattle.std.proofs.lemmas.List.{ext_get_or, map-append, take_all, take-take, drop-take, drop-drop, get_or-drop, length-take-le, length-drop, take-append-drop}
 use Rattle.std.proofs.lemmas.List.Elements.{All-append, All-drop, All-take, filter_map-append}
 use Rattle.std.proofs.lemmas.List.FromFn.{get_or-map-range_with_len}
 use Rattle.std.proofs.lemmas.List.Sums.{fold-append}
@@ -30,7 +30,7 @@ use Rattle.dem_force.specs.Loads.{AreLoads}
 use Rattle.dem_step.specs.Contacts.{ArePairs}
 use Rattle.dem_step.specs.Inside.{loads_after, displacement_of, IsSmallMeeting, HaveMet}
 use Rattle.dem_step.specs.Marks.{is_met, AreMarked}
-use Rattle.dem_step.specs.Split.{pairs_between, both_loads, AreAdded}
+use Rattle.dem_step.specs.Split.{pairs_between, both_loads}
 use Rattle.dem_step.specs.declared.marks.Marks.{Marks}
 use Rattle.dem_step.proofs.ListFacts.{meeting-none, pair_count-take}
 use Rattle.dem_step.proofs.MetFacts.{HaveMet-none, HaveMet-more, loads-met-all}

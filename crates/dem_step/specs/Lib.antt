@@ -5,4 +5,5 @@ pub mod Stored
 pub mod Prepared
 pub mod Marks
 pub mod Split
+pub mod Advancing
 pub mod Ahead

@@ -1,6 +1,7 @@
-//! The bodies of all clumps after a step, put into room that was made before.
+//! The bodies of all clumps after a step, put into room that was made before, by one thread or shared among several.
 
-ghost use Rattle.std.specs.Prelude.{◌≡◌, ◌<◌, ◌≤◌, ◌^◌, length, Result, Ok, Err, OnOk, IfErr, IsTrue};
+ghost use Rattle.std.specs.Prelude.{◌≡◌, ◌+◌, ◌<◌, ◌≤◌, ◌^◌, length, map, Result, Ok, Err, OnOk, IfOk, IfErr, IsTrue};
+ghost use Rattle.std.specs.Thread.{IsSync};
 ghost use Rattle.dem_num.specs.Vectors.{widened, sum_of, shifted_each, Within};
 ghost use Rattle.dem_model.specs.Motion.{AreSound};
 ghost use Rattle.dem_model.specs.Position.{in_box};
@@ -9,13 +10,23 @@ ghost use Rattle.dem_model.specs.Step.{no_load, advanced_from};
 ghost use Rattle.dem_shape.specs.Matrices.{AreMatrices};
 ghost use Rattle.dem_force.specs.Loads.{AreLoads};
 ghost use Rattle.dem_voxel.specs.Voxel.{unpacked};
+ghost use Rattle.dem_step.specs.Advancing.{CanAdvance, advanced_at, IsAdvanced, AdvancesBetween, first_end};
+ghost use Rattle.dem_step.specs.Stored.{body_of};
 
-use crate::stored::StoredBodies;
+use crate::stored::{Stored, StoredBodies, store};
 use dem_force::advance_by;
-use dem_model::{Body, End, Load};
+use dem_model::{Body, End, EndKind, Load};
 use dem_num::{Vec3, sh_short};
 use dem_shape::{Matrices, Shapes};
 use dem_voxel::{VoxelPos, moved};
+use rayon::join_mut;
+use std::thread::Threads;
+
+/// Fewer clumps than these are advanced by one thread: to start threads takes longer.
+const LEAST_SPLIT: u32 = 4096;
+
+/// How often the clumps of a step are halved.
+const HALVINGS: u32 = 2;
 
 /// Puts the bodies after the step of this number under these loads into `next`, or tells the first limit that a clump passes.
 /// The bodies before it are given as they are stored, and unpacked, and their matrices.
@@ -38,18 +49,218 @@ pub fn advance_all(
     ensures ended { IfErr result (λ end. advanced_from shapes.now step 0 shapes.now.clumps bodies.now loads.now ≡ Err end) }
     ensures room { length next.new ≡ length shapes.now.clumps }
 {
-    for k in 0..shapes.scene().clumps.len() {
-        let load = loads[k];
-        let clump = k as u32;
-        let rows = matrices.get(clump);
-        match advance_by(shapes, clump, rows, &bodies[k], load.force, load.torque) {
-            Ok(body) => next.put(k, moved_with(shapes, stored.voxel(k), &body), &body),
+    let count = shapes.scene().clumps.len() as u32;
+    let room = next.items.as_mut_slice();
+    advance_range(
+        0, count, shapes, stored, bodies, matrices, loads, step, room,
+    )
+}
+
+/// The same as `advance_all`, its clumps shared among threads by halves.
+pub fn advance_split<R: Threads + Sync>(
+    rt: &R,
+    next: &mut StoredBodies,
+    shapes: &Shapes,
+    stored: &StoredBodies,
+    bodies: &[Body],
+    matrices: &Matrices,
+    loads: &[Load],
+    step: u32,
+) -> Result<(), End>
+    requires room { length next.old ≡ length shapes.now.clumps }
+    requires sound { AreSound shapes.now bodies.now }
+    requires same { stored.now ≡ bodies.now }
+    requires matrices { AreMatrices shapes.now bodies.now matrices.now }
+    requires loads { AreLoads shapes.now loads.now }
+    ensures advanced { OnOk result (advanced_from shapes.now step 0 shapes.now.clumps bodies.now loads.now ≡ Ok next.new) }
+    ensures sound { OnOk result (AreSound shapes.now next.new) }
+    ensures ended { IfErr result (λ end. advanced_from shapes.now step 0 shapes.now.clumps bodies.now loads.now ≡ Err end) }
+    ensures room { length next.new ≡ length shapes.now.clumps }
+{
+    let count = shapes.scene().clumps.len() as u32;
+    let room = next.items.as_mut_slice();
+    advance_part(
+        rt, HALVINGS, 0, count, shapes, stored, bodies, matrices, loads, step, room,
+    )
+}
+
+/// Advances the clumps from number `from` to before number `to`, shared among threads by halves while they are many and there is
+/// depth left.
+#[cycle(halves)]
+fn advance_part<R: Threads + Sync>(
+    rt: &R,
+    depth: u32,
+    from: u32,
+    to: u32,
+    shapes: &Shapes,
+    stored: &StoredBodies,
+    bodies: &[Body],
+    matrices: &Matrices,
+    loads: &[Load],
+    step: u32,
+    next: &mut [Stored],
+) -> Result<(), End>
+    requires can { CanAdvance shapes.now stored.now bodies.now matrices.now loads.now }
+    requires order { from ≤ to }
+    requires there { to ≤ length shapes.now.clumps }
+    requires room { length next.old + from ≡ to }
+    ensures part { AdvancesBetween shapes.now step bodies.now loads.now from to (map body_of next.new) result }
+    ensures room { length next.new ≡ length next.old }
+{
+    if depth == 0 || to - from < LEAST_SPLIT {
+        return advance_range(
+            from, to, shapes, stored, bodies, matrices, loads, step, next,
+        );
+    }
+    let low = (to - from) / 2;
+    let (front, back) = next.split_at_mut(low as usize);
+    let (here, there) = both_halves(
+        rt,
+        depth,
+        from,
+        from + low,
+        to,
+        shapes,
+        stored,
+        bodies,
+        matrices,
+        loads,
+        step,
+        front,
+        back,
+    );
+    earlier(here, there)
+}
+
+/// Advances the clumps of two parts side by side: the first in another thread, where one can be made.
+#[cycle(halves)]
+fn both_halves<R: Threads + Sync>(
+    rt: &R,
+    depth: u32,
+    from: u32,
+    middle: u32,
+    to: u32,
+    shapes: &Shapes,
+    stored: &StoredBodies,
+    bodies: &[Body],
+    matrices: &Matrices,
+    loads: &[Load],
+    step: u32,
+    front: &mut [Stored],
+    back: &mut [Stored],
+) -> (Result<(), End>, Result<(), End>)
+    requires depth { 0 < depth }
+    requires can { CanAdvance shapes.now stored.now bodies.now matrices.now loads.now }
+    requires first { from ≤ middle }
+    requires second { middle ≤ to }
+    requires there { to ≤ length shapes.now.clumps }
+    requires front { length front.old + from ≡ middle }
+    requires back { length back.old + middle ≡ to }
+    ensures front { AdvancesBetween shapes.now step bodies.now loads.now from middle (map body_of front.new) result.0 }
+    ensures back { AdvancesBetween shapes.now step bodies.now loads.now middle to (map body_of back.new) result.1 }
+    ensures front_room { length front.new ≡ length front.old }
+    ensures back_room { length back.new ≡ length back.old }
+{
+    let mut first = || -> Result<(), End>
+        requires { IsSync R.row × (0 < depth) × CanAdvance shapes.now stored.now bodies.now matrices.now loads.now × (from ≤ middle) × (middle ≤ length shapes.now.clumps) × (length front.now + from ≡ middle) }
+        ensures { AdvancesBetween shapes.entry.now step bodies.entry.now loads.entry.now from middle (map body_of front.exit.now) result × (length front.exit.now ≡ length front.entry.now) }
+    {
+        advance_part(
+            rt,
+            depth - 1,
+            from,
+            middle,
+            shapes,
+            stored,
+            bodies,
+            matrices,
+            loads,
+            step,
+            front,
+        )
+    };
+    let mut second = || -> Result<(), End>
+        requires { IsSync R.row × (0 < depth) × CanAdvance shapes.now stored.now bodies.now matrices.now loads.now × (middle ≤ to) × (to ≤ length shapes.now.clumps) × (length back.now + middle ≡ to) }
+        ensures { AdvancesBetween shapes.entry.now step bodies.entry.now loads.entry.now middle to (map body_of back.exit.now) result × (length back.exit.now ≡ length back.entry.now) }
+    {
+        advance_part(
+            rt,
+            depth - 1,
+            middle,
+            to,
+            shapes,
+            stored,
+            bodies,
+            matrices,
+            loads,
+            step,
+            back,
+        )
+    };
+    join_mut(rt, &mut first, &mut second)
+}
+
+/// The first end of two parts, the first of which has the clumps before those of the second.
+fn earlier(here: Result<(), End>, there: Result<(), End>) -> Result<(), End>
+    ensures { result ≡ first_end here there }
+{
+    match here {
+        Ok(()) => there,
+        Err(end) => Err(end),
+    }
+}
+
+/// Advances the clumps from number `from` to before number `to` on this thread.
+fn advance_range(
+    from: u32,
+    to: u32,
+    shapes: &Shapes,
+    stored: &StoredBodies,
+    bodies: &[Body],
+    matrices: &Matrices,
+    loads: &[Load],
+    step: u32,
+    next: &mut [Stored],
+) -> Result<(), End>
+    requires can { CanAdvance shapes.now stored.now bodies.now matrices.now loads.now }
+    requires order { from ≤ to }
+    requires there { to ≤ length shapes.now.clumps }
+    requires room { length next.old + from ≡ to }
+    ensures part { AdvancesBetween shapes.now step bodies.now loads.now from to (map body_of next.new) result }
+    ensures room { length next.new ≡ length next.old }
+{
+    for clump in from..to {
+        match advance_one(clump, shapes, stored, bodies, matrices, loads) {
+            Ok(body) => next[(clump - from) as usize] = body,
             Err(kind) => {
                 return Err(End { step, kind, clump });
             }
         }
     }
     Ok(())
+}
+
+/// The body of a clump after the step, in its stored form, or the limit that it passes.
+fn advance_one(
+    clump: u32,
+    shapes: &Shapes,
+    stored: &StoredBodies,
+    bodies: &[Body],
+    matrices: &Matrices,
+    loads: &[Load],
+) -> Result<Stored, EndKind>
+    requires can { CanAdvance shapes.now stored.now bodies.now matrices.now loads.now }
+    requires there { clump < length shapes.now.clumps }
+    ensures advanced { IfOk result (λ x. IsAdvanced shapes.now bodies.now loads.now clump (body_of x)) }
+    ensures ended { IfErr result (λ kind. advanced_at shapes.now bodies.now loads.now clump ≡ Err kind) }
+{
+    let k = clump as usize;
+    let load = loads[k];
+    let rows = matrices.get(clump);
+    match advance_by(shapes, clump, rows, &bodies[k], load.force, load.torque) {
+        Ok(body) => Ok(store(moved_with(shapes, stored.voxel(k), &body), &body)),
+        Err(kind) => Err(kind),
+    }
 }
 
 /// The stored position of a clump after a step: the one before it, moved by the velocity that the step gave.

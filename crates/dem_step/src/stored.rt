@@ -1,6 +1,6 @@
 //! The bodies of a run as it stores them: each position by its voxel and its offset there.
 
-ghost use Rattle.std.specs.Prelude.{◌≡◌, ◌<◌, length, slice_get, slice_set, Some, IfOk, IsTrue};
+ghost use Rattle.std.specs.Prelude.{◌≡◌, ◌<◌, length, slice_get, Some, IfOk, IsTrue};
 ghost use Rattle.dem_num.specs.Vectors.{widened};
 ghost use Rattle.dem_model.specs.Centers.{body_at};
 ghost use Rattle.dem_model.specs.Plain.{first_state};
@@ -27,7 +27,7 @@ pub struct Stored {
 /// The bodies of all clumps, each stored by its voxel and its offset there; contracts see the bodies.
 #[derive(Drop)]
 pub struct StoredBodies {
-    items: List<Stored>,
+    pub items: Vec<Stored>,
 }
 
 impl Model for StoredBodies {
@@ -37,7 +37,7 @@ impl Model for StoredBodies {
 
     ghost Value = { Seq Body };
 
-    ghost view = { λ a. map body_of a.items };
+    ghost view = { λ a. map body_of a.items.items };
 }
 
 impl StoredBodies {
@@ -45,9 +45,11 @@ impl StoredBodies {
     pub fn new(alloc: Global, shapes: &Shapes) -> Result<StoredBodies, OutOfMemory>
         ensures { IfOk result (λ bodies. bodies ≡ (first_state shapes.now).bodies) }
     {
-        let mut items = List::new(alloc);
+        let mut items = Vec::new(alloc);
         for clump in shapes.scene().clumps.as_slice() {
-            items.push(store(place(shapes, &clump.body), &clump.body))?;
+            if let Err(_) = items.push(store(place(shapes, &clump.body), &clump.body)) {
+                return Err(OutOfMemory);
+            }
         }
         Ok(StoredBodies { items })
     }
@@ -57,7 +59,7 @@ impl StoredBodies {
         requires { k < length self.now }
         ensures { slice_get self.now k ≡ Some result }
     {
-        restore(self.items.get(k))
+        restore(&self.items[k])
     }
 
     /// The stored position of a clump.
@@ -66,18 +68,9 @@ impl StoredBodies {
         ensures value { result ≡ packed (widened (body_at self.now k).p) }
         ensures place { unpacked result ≡ widened (body_at self.now k).p }
     {
-        let at = self.items.get(k).at;
+        let at = self.items[k].at;
         let _place = unpack(at);
         at
-    }
-
-    /// Puts the body of a clump; this is the stored form of its position.
-    pub fn put(&mut self, k: usize, at: VoxelPos, body: &Body)
-        requires there { k < length self.old }
-        requires place { unpacked at ≡ widened body.now.p }
-        ensures { self.new ≡ slice_set self.old k body.now }
-    {
-        self.items.set(k, store(at, body));
     }
 
     /// Copies all bodies into room for as many.
@@ -101,7 +94,7 @@ fn place(shapes: &Shapes, body: &Body) -> VoxelPos
 }
 
 /// The stored form of a body, from that of its position.
-fn store(at: VoxelPos, body: &Body) -> Stored
+pub fn store(at: VoxelPos, body: &Body) -> Stored
     requires { unpacked at ≡ widened body.now.p }
     ensures { body_of result ≡ body.now }
 {

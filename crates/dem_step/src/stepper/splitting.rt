@@ -4,7 +4,7 @@ ghost use Rattle.std.specs.Prelude.{◌+◌, ◌≤◌, length};
 ghost use Rattle.dem_step.specs.Split.{SplitsOnList};
 ghost use Rattle.dem_step.specs.Stepper.{CanStep, StepsOnList};
 
-use crate::advancing::advance_all;
+use crate::advancing::advance_split;
 use crate::split::{SplitStop, meet_split};
 use crate::stepper::{Dyn, steps_left};
 use dem_model::{End, OutOfMemory, Steps};
@@ -20,12 +20,10 @@ impl<'s> Dyn<'s> {
     {
         self.met = false;
         self.prepared.make(self.shapes, &self.bodies);
-        self.marks.renew(
-            self.shapes,
-            &self.prepared.spheres.centers,
-            self.contacts.list(),
-            steps_left(self.contacts.list().from(), self.step, self.drift),
-        );
+        let left = steps_left(self.contacts.list().from(), self.step, self.drift);
+        let centers = &self.prepared.spheres.centers;
+        self.marks
+            .renew(self.shapes, centers, self.contacts.list(), left);
         if let Err(OutOfMemory) = self.split.gather(self.shapes) {
             return Err(SplitStop::OutOfMemory);
         }
@@ -40,7 +38,8 @@ impl<'s> Dyn<'s> {
             &self.contacts,
             &self.marks,
         );
-        match advance_all(
+        match advance_split(
+            rt,
             &mut self.next,
             self.shapes,
             &self.bodies,

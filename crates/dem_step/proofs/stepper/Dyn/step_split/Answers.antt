@@ -27,24 +27,24 @@ use Rattle.dem_step.proofs.MarkFacts.{AreRenewed, marks_now, marks_next, marks_r
 use Rattle.dem_step.proofs.PreparedFacts.{prepared_kept, prepared_past}
 use Rattle.dem_step.proofs.stepper.Dyn.step_split.Goals as goal
 
-pub steps_left-requires-clause-past : goal.steps_left-requires-clause-past
-steps_left-requires-clause-past g c =
+pub steps_left-left-requires-clause-past : goal.steps_left-left-requires-clause-past
+steps_left-left-requires-clause-past g c =
     let can : IsUsable c.self.inside.shapes.now c.self.inside.drift c.self.inside.step c.self.inside.contacts.list =
     usable c.self.inside.shapes.now c.self.inside.drift c.self.inside.step c.self.inside.listed c.self.inside.bodies c.self.inside.contacts c.self.invariant.0
     (subst (λ (r : Stepper). IsSomeAnd r.from (λ from. r.state.step ≤ from + r.drift)) (sym c.self.view_is) c.requires.listed) in
-    let from : c.from.result ≡ c.self.inside.contacts.list.from = c.from.ensures ∙ ap (λ (l : Pairs). l.from) c.list-2.ensures.value in
+    let from : c.from.result ≡ c.self.inside.contacts.list.from = c.from.ensures ∙ ap (λ (l : Pairs). l.from) c.list.ensures.value in
     omega (arith, can.past, from)
 
-pub steps_left-requires-clause-young : goal.steps_left-requires-clause-young
-steps_left-requires-clause-young g c =
+pub steps_left-left-requires-clause-young : goal.steps_left-left-requires-clause-young
+steps_left-left-requires-clause-young g c =
     let can : IsUsable c.self.inside.shapes.now c.self.inside.drift c.self.inside.step c.self.inside.contacts.list =
     usable c.self.inside.shapes.now c.self.inside.drift c.self.inside.step c.self.inside.listed c.self.inside.bodies c.self.inside.contacts c.self.invariant.0
     (subst (λ (r : Stepper). IsSomeAnd r.from (λ from. r.state.step ≤ from + r.drift)) (sym c.self.view_is) c.requires.listed) in
-    let from : c.from.result ≡ c.self.inside.contacts.list.from = c.from.ensures ∙ ap (λ (l : Pairs). l.from) c.list-2.ensures.value in
+    let from : c.from.result ≡ c.self.inside.contacts.list.from = c.from.ensures ∙ ap (λ (l : Pairs). l.from) c.list.ensures.value in
     omega (arith, can.late, from)
 
 pub renew-requires-clause-room : goal.renew-requires-clause-room
-renew-requires-clause-room g c = omega (arith, c.self.invariant.3.room, ap (λ (l : Pairs). length l.pairs) c.list.ensures.value)
+renew-requires-clause-room g c = omega (arith, c.self.invariant.3.room, ap (λ (l : Pairs). length l.pairs) c.list-2.ensures.value)
 
 pub renew-requires-clause-centers : goal.renew-requires-clause-centers
 renew-requires-clause-centers g c =
@@ -53,10 +53,10 @@ renew-requires-clause-centers g c =
 
 pub renew-requires-clause-pairs : goal.renew-requires-clause-pairs
 renew-requires-clause-pairs g c =
-    subst (λ (l : Pairs). All (IsPair c.self.inside.shapes.now) l.pairs) (sym c.list.ensures.value) c.self.invariant.0.contacts_are.pairs.each
+    subst (λ (l : Pairs). All (IsPair c.self.inside.shapes.now) l.pairs) (sym c.list-2.ensures.value) c.self.invariant.0.contacts_are.pairs.each
 
 pub renew-requires-clause-left : goal.renew-requires-clause-left
-renew-requires-clause-left g c = omega (arith, c.steps_left.ensures.size, c.self.invariant.0.drift_le)
+renew-requires-clause-left g c = omega (arith, c.steps_left-left.ensures.size, c.self.invariant.0.drift_le)
 
 pub meet_split-requires-clause-marks : goal.meet_split-requires-clause-marks
 meet_split-requires-clause-marks g c κs within = omega (arith, c.self.invariant.3.room, c.renew.ensures.room)
@@ -66,12 +66,12 @@ meet_split-requires-clause-marked g c κs within =
     let can : IsUsable c.self.inside.shapes.now c.self.inside.drift c.self.inside.step c.self.inside.contacts.list =
     usable c.self.inside.shapes.now c.self.inside.drift c.self.inside.step c.self.inside.listed c.self.inside.bodies c.self.inside.contacts c.self.invariant.0
     (subst (λ (r : Stepper). IsSomeAnd r.from (λ from. r.state.step ≤ from + r.drift)) (sym c.self.view_is) c.requires.listed) in
-    let from : c.from.result ≡ c.self.inside.contacts.list.from = c.from.ensures ∙ ap (λ (l : Pairs). l.from) c.list-2.ensures.value in
+    let from : c.from.result ≡ c.self.inside.contacts.list.from = c.from.ensures ∙ ap (λ (l : Pairs). l.from) c.list.ensures.value in
     let stay : StayMarked c.self.inside.shapes.now c.self.inside.step (c.self.inside.contacts.list.from + c.self.inside.drift) c.self.inside.contacts.list.pairs c.renew.new.self =
-    marks_renewed c.self.inside.shapes.now c.self.inside.step c.steps_left.result (c.self.inside.contacts.list.from + c.self.inside.drift) c.self.inside.contacts.list.pairs c.self.inside.marks c.renew.new.self
-    c.self.inside.bodies c.make.new.self.spheres.centers c.self.invariant.3 (c.steps_left.ensures.value ∙ ap (λ n. n + c.self.inside.drift) from) c.self.invariant.0.plain c.self.invariant.0.bodies_are c.make.ensures.centers_are
+    marks_renewed c.self.inside.shapes.now c.self.inside.step c.steps_left-left.result (c.self.inside.contacts.list.from + c.self.inside.drift) c.self.inside.contacts.list.pairs c.self.inside.marks c.renew.new.self
+    c.self.inside.bodies c.make.new.self.spheres.centers c.self.invariant.3 (c.steps_left-left.ensures.value ∙ ap (λ n. n + c.self.inside.drift) from) c.self.invariant.0.plain c.self.invariant.0.bodies_are c.make.ensures.centers_are
     can.pairs.each c.renew.ensures.room
-    (subst (λ (l : Pairs). AreRenewed c.self.inside.shapes.now c.steps_left.result c.make.new.self.spheres.centers l.pairs c.self.inside.marks c.renew.new.self) c.list.ensures.value c.renew.ensures.right) in
+    (subst (λ (l : Pairs). AreRenewed c.self.inside.shapes.now c.steps_left-left.result c.make.new.self.spheres.centers l.pairs c.self.inside.marks c.renew.new.self) c.list-2.ensures.value c.renew.ensures.right) in
     marks_now c.self.inside.shapes.now c.self.inside.step (c.self.inside.contacts.list.from + c.self.inside.drift) c.self.inside.contacts.list.pairs c.renew.new.self c.self.inside.bodies c.make.new.self.spheres.centers
     stay can.late c.self.invariant.0.plain c.self.invariant.0.bodies_are c.make.ensures.centers_are
 
@@ -95,20 +95,20 @@ overflow_add-self g c =
     let lt : (state_at c.self.inside.shapes.now c.self.inside.step).step < c.self.inside.shapes.now.steps = subst (λ (r : Stepper). r.state.step < r.scene.steps) (sym c.self.view_is) c.requires.goes_on in
     omega (arith, lt, plain-number c.self.inside.shapes.now c.self.inside.step (state_at c.self.inside.shapes.now c.self.inside.step) c.self.invariant.0.plain, c.self.invariant.0.scene.steps)
 
-pub advance_all-requires-clause-matrices : goal.advance_all-requires-clause-matrices
-advance_all-requires-clause-matrices g c =
+pub advance_split-requires-clause-matrices : goal.advance_split-requires-clause-matrices
+advance_split-requires-clause-matrices g c κs within =
     subst (λ (bs : List Body). AreMatrices c.self.inside.shapes.now bs c.make.new.self.spheres.matrices) (sym (c.as_slice-2.ensures ∙ c.make.ensures.bodies_are)) c.make.ensures.matrices_are
 
-pub advance_all-requires-clause-loads : goal.advance_all-requires-clause-loads
-advance_all-requires-clause-loads g c =
+pub advance_split-requires-clause-loads : goal.advance_split-requires-clause-loads
+advance_split-requires-clause-loads g c κs within =
     let size : length c.meet_split.new.loads ≡ c.self.inside.loads.len = omega (arith, c.meet_split.auto.loads, c.as_mut_slice.ensures.len) in
     let pairs = (usable c.self.inside.shapes.now c.self.inside.drift c.self.inside.step c.self.inside.listed c.self.inside.bodies c.self.inside.contacts c.self.invariant.0
     (subst (λ (r : Stepper). IsSomeAnd r.from (λ from. r.state.step ≤ from + r.drift)) (sym c.self.view_is) c.requires.listed)).pairs in
     subst (AreLoads c.self.inside.shapes.now) (sym (c.as_slice-3.ensures.value ∙ with_items_is c.self.inside.loads c.meet_split.new.loads size))
     (loads-met-all c.self.inside.shapes.now _ c.make.new.self.spheres.centers (held_by c.self.inside.contacts) c.self.inside.contacts.list.pairs c.meet_split.new.loads c.meet_split.new.fresh pairs c.meet_split.ensures.met)
 
-pub invariant_of-self-in-Err-advance_all : goal.invariant_of-self-in-Err-advance_all
-invariant_of-self-in-Err-advance_all g c =
+pub invariant_of-self-in-Err-advance_split : goal.invariant_of-self-in-Err-advance_split
+invariant_of-self-in-Err-advance_split g c =
     let can : IsUsable c.self.inside.shapes.now c.self.inside.drift c.self.inside.step c.self.inside.contacts.list =
     usable c.self.inside.shapes.now c.self.inside.drift c.self.inside.step c.self.inside.listed c.self.inside.bodies c.self.inside.contacts c.self.invariant.0 (subst (λ (r : Stepper). IsSomeAnd r.from (λ from. r.state.step ≤ from + r.drift)) (sym c.self.view_is) c.requires.listed) in
     let filled : c.make.new.self.spheres.centers ≡ centers_of c.self.inside.shapes.now c.self.inside.bodies = c.make.ensures.centers_are in
@@ -120,16 +120,16 @@ invariant_of-self-in-Err-advance_all g c =
     let fresh_size : length c.meet_split.new.fresh ≡ c.self.inside.fresh.len = omega (arith, c.meet_split.auto.fresh, c.as_mut_slice-2.ensures.len) in
     let load_count : length c.meet_split.new.loads ≡ length c.self.inside.shapes.now.clumps = omega (arith, size, ap length c.as_mut_slice.ensures.value, c.meet_split.auto.loads, c.self.invariant.1.load_each) in
     let fresh_count : length c.self.inside.contacts.list.pairs ≤ length c.meet_split.new.fresh = omega (arith, ap length c.as_mut_slice-2.ensures.value, c.meet_split.auto.fresh, c.self.invariant.1.entry_each) in
-    let from : c.from.result ≡ c.self.inside.contacts.list.from = c.from.ensures ∙ ap (λ (l : Pairs). l.from) c.list-2.ensures.value in
+    let from : c.from.result ≡ c.self.inside.contacts.list.from = c.from.ensures ∙ ap (λ (l : Pairs). l.from) c.list.ensures.value in
     let stay : StayMarked c.self.inside.shapes.now c.self.inside.step (c.self.inside.contacts.list.from + c.self.inside.drift) c.self.inside.contacts.list.pairs c.renew.new.self =
-    marks_renewed c.self.inside.shapes.now c.self.inside.step c.steps_left.result (c.self.inside.contacts.list.from + c.self.inside.drift) c.self.inside.contacts.list.pairs c.self.inside.marks c.renew.new.self
-    c.self.inside.bodies c.make.new.self.spheres.centers c.self.invariant.3 (c.steps_left.ensures.value ∙ ap (λ n. n + c.self.inside.drift) from) c.self.invariant.0.plain c.self.invariant.0.bodies_are c.make.ensures.centers_are
+    marks_renewed c.self.inside.shapes.now c.self.inside.step c.steps_left-left.result (c.self.inside.contacts.list.from + c.self.inside.drift) c.self.inside.contacts.list.pairs c.self.inside.marks c.renew.new.self
+    c.self.inside.bodies c.make.new.self.spheres.centers c.self.invariant.3 (c.steps_left-left.ensures.value ∙ ap (λ n. n + c.self.inside.drift) from) c.self.invariant.0.plain c.self.invariant.0.bodies_are c.make.ensures.centers_are
     can.pairs.each c.renew.ensures.room
-    (subst (λ (l : Pairs). AreRenewed c.self.inside.shapes.now c.steps_left.result c.make.new.self.spheres.centers l.pairs c.self.inside.marks c.renew.new.self) c.list.ensures.value c.renew.ensures.right) in (
+    (subst (λ (l : Pairs). AreRenewed c.self.inside.shapes.now c.steps_left-left.result c.make.new.self.spheres.centers l.pairs c.self.inside.marks c.renew.new.self) c.list-2.ensures.value c.renew.ensures.right) in (
       c.self.invariant.0,
       record {
         load_each = ap length (with_items_is c.self.inside.loads c.meet_split.new.loads size) ∙ load_count;
-        body_each = c.advance_all.ensures.room;
+        body_each = c.advance_split.ensures.room;
         entry_each = subst (λ (es : List (Option Vec3)). length c.self.inside.contacts.list.pairs ≤ length es) (sym (with_items_is c.self.inside.fresh c.meet_split.new.fresh fresh_size)) fresh_count;
       },
       prepared_kept _ _ _ c.self.invariant.0.sound c.make.ensures,
@@ -137,8 +137,8 @@ invariant_of-self-in-Err-advance_all g c =
       λ (no : false ≡ true). cc,
     )
 
-pub returns-in-Err-advance_all : goal.returns-in-Err-advance_all
-returns-in-Err-advance_all g c =
+pub returns-in-Err-advance_split : goal.returns-in-Err-advance_split
+returns-in-Err-advance_split g c =
     let can : IsUsable c.self.inside.shapes.now c.self.inside.drift c.self.inside.step c.self.inside.contacts.list =
     usable c.self.inside.shapes.now c.self.inside.drift c.self.inside.step c.self.inside.listed c.self.inside.bodies c.self.inside.contacts c.self.invariant.0 (subst (λ (r : Stepper). IsSomeAnd r.from (λ from. r.state.step ≤ from + r.drift)) (sym c.self.view_is) c.requires.listed) in
     let filled : c.make.new.self.spheres.centers ≡ centers_of c.self.inside.shapes.now c.self.inside.bodies = c.make.ensures.centers_are in
@@ -147,11 +147,11 @@ returns-in-Err-advance_all g c =
     let start = about c.self.inside.shapes.now c.self.inside.drift c.self.inside.step c.self.inside.listed c.self.inside.bodies c.self.inside.contacts c.make.new.self.spheres.centers c.meet_split.new.loads c.meet_split.new.fresh c.self.invariant.0 can filled met in
     let size : length c.meet_split.new.loads ≡ c.self.inside.loads.len = omega (arith, c.meet_split.auto.loads, c.as_mut_slice.ensures.len) in
     let loads : c.as_slice-3.result.now ≡ c.meet_split.new.loads = c.as_slice-3.ensures.value ∙ with_items_is c.self.inside.loads c.meet_split.new.loads size in
-    let ended : advanced_from c.self.inside.shapes.now (c.self.inside.step + 1) 0 c.self.inside.shapes.now.clumps c.self.inside.bodies c.meet_split.new.loads ≡ Err c.in-Err-advance_all.end =
-    subst (λ (ws : List Load). advanced_from c.self.inside.shapes.now (c.self.inside.step + 1) 0 c.self.inside.shapes.now.clumps c.self.inside.bodies ws ≡ Err c.in-Err-advance_all.end) loads
-    (subst (λ (bs : List Body). advanced_from c.self.inside.shapes.now (c.self.inside.step + 1) 0 c.self.inside.shapes.now.clumps bs c.as_slice-3.result.now ≡ Err c.in-Err-advance_all.end) (c.as_slice-2.ensures ∙ c.make.ensures.bodies_are) c.in-Err-advance_all.ensures.ended) in (
-      subst (λ (r : Stepper). step_of r.scene r.state ≡ Err c.in-Err-advance_all.end) c.self.view_is
-          (step-ends c.self.inside.shapes.now c.self.inside.drift c.self.inside.step c.self.inside.bodies c.in-Err-advance_all.end c.self.inside.contacts c.make.new.self.spheres.centers c.meet_split.new.loads c.meet_split.new.fresh start ended),
+    let ended : advanced_from c.self.inside.shapes.now (c.self.inside.step + 1) 0 c.self.inside.shapes.now.clumps c.self.inside.bodies c.meet_split.new.loads ≡ Err c.in-Err-advance_split.end =
+    subst (λ (ws : List Load). advanced_from c.self.inside.shapes.now (c.self.inside.step + 1) 0 c.self.inside.shapes.now.clumps c.self.inside.bodies ws ≡ Err c.in-Err-advance_split.end) loads
+    (subst (λ (bs : List Body). advanced_from c.self.inside.shapes.now (c.self.inside.step + 1) 0 c.self.inside.shapes.now.clumps bs c.as_slice-3.result.now ≡ Err c.in-Err-advance_split.end) (c.as_slice-2.ensures ∙ c.make.ensures.bodies_are) c.in-Err-advance_split.ensures.ended) in (
+      subst (λ (r : Stepper). step_of r.scene r.state ≡ Err c.in-Err-advance_split.end) c.self.view_is
+          (step-ends c.self.inside.shapes.now c.self.inside.drift c.self.inside.step c.self.inside.bodies c.in-Err-advance_split.end c.self.inside.contacts c.make.new.self.spheres.centers c.meet_split.new.loads c.meet_split.new.fresh start ended),
       c.self.view_is,
     )
 
@@ -170,23 +170,23 @@ invariant_of-self-in-Ok g c =
     let fresh_count : length c.self.inside.contacts.list.pairs ≤ length c.meet_split.new.fresh = omega (arith, ap length c.as_mut_slice-2.ensures.value, c.meet_split.auto.fresh, c.self.invariant.1.entry_each) in
     let number : (state_at c.self.inside.shapes.now c.self.inside.step).step ≡ c.self.inside.step = plain-number c.self.inside.shapes.now c.self.inside.step (state_at c.self.inside.shapes.now c.self.inside.step) c.self.invariant.0.plain in
     let below : c.self.inside.step < c.self.inside.shapes.now.steps = subst (λ n. n < c.self.inside.shapes.now.steps) number (subst (λ (r : Stepper). r.state.step < r.scene.steps) (sym c.self.view_is) c.requires.goes_on) in
-    let advanced : advanced_from c.self.inside.shapes.now (c.self.inside.step + 1) 0 c.self.inside.shapes.now.clumps c.self.inside.bodies c.meet_split.new.loads ≡ Ok c.advance_all.new.next =
-    subst (λ (ws : List Load). advanced_from c.self.inside.shapes.now (c.self.inside.step + 1) 0 c.self.inside.shapes.now.clumps c.self.inside.bodies ws ≡ Ok c.advance_all.new.next) loads
-    (subst (λ (bs : List Body). advanced_from c.self.inside.shapes.now (c.self.inside.step + 1) 0 c.self.inside.shapes.now.clumps bs c.as_slice-3.result.now ≡ Ok c.advance_all.new.next) (c.as_slice-2.ensures ∙ c.make.ensures.bodies_are) c.in-Ok.ensures.advanced) in
-    let made : step_of c.self.inside.shapes.now (state_at c.self.inside.shapes.now c.self.inside.step) ≡ Ok (next_state (c.self.inside.step + 1) c.advance_all.new.next (kept_of c.self.inside.contacts.list.pairs c.meet_split.new.fresh)) =
-    step-made c.self.inside.shapes.now c.self.inside.drift c.self.inside.step c.self.inside.bodies c.advance_all.new.next c.self.inside.contacts c.make.new.self.spheres.centers c.meet_split.new.loads c.meet_split.new.fresh start advanced in
+    let advanced : advanced_from c.self.inside.shapes.now (c.self.inside.step + 1) 0 c.self.inside.shapes.now.clumps c.self.inside.bodies c.meet_split.new.loads ≡ Ok c.advance_split.new.next =
+    subst (λ (ws : List Load). advanced_from c.self.inside.shapes.now (c.self.inside.step + 1) 0 c.self.inside.shapes.now.clumps c.self.inside.bodies ws ≡ Ok c.advance_split.new.next) loads
+    (subst (λ (bs : List Body). advanced_from c.self.inside.shapes.now (c.self.inside.step + 1) 0 c.self.inside.shapes.now.clumps bs c.as_slice-3.result.now ≡ Ok c.advance_split.new.next) (c.as_slice-2.ensures ∙ c.make.ensures.bodies_are) c.in-Ok.ensures.advanced) in
+    let made : step_of c.self.inside.shapes.now (state_at c.self.inside.shapes.now c.self.inside.step) ≡ Ok (next_state (c.self.inside.step + 1) c.advance_split.new.next (kept_of c.self.inside.contacts.list.pairs c.meet_split.new.fresh)) =
+    step-made c.self.inside.shapes.now c.self.inside.drift c.self.inside.step c.self.inside.bodies c.advance_split.new.next c.self.inside.contacts c.make.new.self.spheres.centers c.meet_split.new.loads c.meet_split.new.fresh start advanced in
     let items = with_items_is c.self.inside.fresh c.meet_split.new.fresh fresh_size in
     let taken : c.exchange.new.self ≡ record { list = c.self.inside.contacts.list; entries = take (length c.self.inside.contacts.list.pairs) c.meet_split.new.fresh } =
     c.exchange.ensures.taken ∙ ap (λ (es : List (Option Vec3)). let h : HeldByPlace = record { list = c.self.inside.contacts.list; entries = take (length c.self.inside.contacts.list.pairs) es } in h) items in
-    let from : c.from.result ≡ c.self.inside.contacts.list.from = c.from.ensures ∙ ap (λ (l : Pairs). l.from) c.list-2.ensures.value in
+    let from : c.from.result ≡ c.self.inside.contacts.list.from = c.from.ensures ∙ ap (λ (l : Pairs). l.from) c.list.ensures.value in
     let stay : StayMarked c.self.inside.shapes.now c.self.inside.step (c.self.inside.contacts.list.from + c.self.inside.drift) c.self.inside.contacts.list.pairs c.renew.new.self =
-    marks_renewed c.self.inside.shapes.now c.self.inside.step c.steps_left.result (c.self.inside.contacts.list.from + c.self.inside.drift) c.self.inside.contacts.list.pairs c.self.inside.marks c.renew.new.self
-    c.self.inside.bodies c.make.new.self.spheres.centers c.self.invariant.3 (c.steps_left.ensures.value ∙ ap (λ n. n + c.self.inside.drift) from) c.self.invariant.0.plain c.self.invariant.0.bodies_are c.make.ensures.centers_are
+    marks_renewed c.self.inside.shapes.now c.self.inside.step c.steps_left-left.result (c.self.inside.contacts.list.from + c.self.inside.drift) c.self.inside.contacts.list.pairs c.self.inside.marks c.renew.new.self
+    c.self.inside.bodies c.make.new.self.spheres.centers c.self.invariant.3 (c.steps_left-left.ensures.value ∙ ap (λ n. n + c.self.inside.drift) from) c.self.invariant.0.plain c.self.invariant.0.bodies_are c.make.ensures.centers_are
     can.pairs.each c.renew.ensures.room
-    (subst (λ (l : Pairs). AreRenewed c.self.inside.shapes.now c.steps_left.result c.make.new.self.spheres.centers l.pairs c.self.inside.marks c.renew.new.self) c.list.ensures.value c.renew.ensures.right) in (
+    (subst (λ (l : Pairs). AreRenewed c.self.inside.shapes.now c.steps_left-left.result c.make.new.self.spheres.centers l.pairs c.self.inside.marks c.renew.new.self) c.list-2.ensures.value c.renew.ensures.right) in (
       subst (λ (h : HeldByPlace). IsStepper c.self.inside.shapes.now c.self.inside.drift (c.self.inside.step + 1) c.self.inside.listed c.swap.new.x h) (sym taken)
           (subst (λ (bs : List Body). IsStepper c.self.inside.shapes.now c.self.inside.drift (c.self.inside.step + 1) c.self.inside.listed bs (record { list = c.self.inside.contacts.list; entries = take (length c.self.inside.contacts.list.pairs) c.meet_split.new.fresh })) (sym c.swap.ensures.x_after)
-          (stepper-next c.self.inside.shapes.now c.self.inside.drift c.self.inside.step c.self.inside.listed c.self.inside.bodies c.advance_all.new.next c.self.inside.contacts.list c.self.inside.contacts.entries c.meet_split.new.fresh (held_by c.self.inside.contacts) c.make.new.self.spheres.centers c.meet_split.new.loads
+          (stepper-next c.self.inside.shapes.now c.self.inside.drift c.self.inside.step c.self.inside.listed c.self.inside.bodies c.advance_split.new.next c.self.inside.contacts.list c.self.inside.contacts.entries c.meet_split.new.fresh (held_by c.self.inside.contacts) c.make.new.self.spheres.centers c.meet_split.new.loads
           c.self.invariant.0 below made c.in-Ok.ensures.sound fresh_count met)),
       record {
         load_each = ap length (with_items_is c.self.inside.loads c.meet_split.new.loads size) ∙ load_count;
@@ -214,16 +214,16 @@ returns-in-Ok g c =
     let fresh_count : length c.self.inside.contacts.list.pairs ≤ length c.meet_split.new.fresh = omega (arith, ap length c.as_mut_slice-2.ensures.value, c.meet_split.auto.fresh, c.self.invariant.1.entry_each) in
     let number : (state_at c.self.inside.shapes.now c.self.inside.step).step ≡ c.self.inside.step = plain-number c.self.inside.shapes.now c.self.inside.step (state_at c.self.inside.shapes.now c.self.inside.step) c.self.invariant.0.plain in
     let below : c.self.inside.step < c.self.inside.shapes.now.steps = subst (λ n. n < c.self.inside.shapes.now.steps) number (subst (λ (r : Stepper). r.state.step < r.scene.steps) (sym c.self.view_is) c.requires.goes_on) in
-    let advanced : advanced_from c.self.inside.shapes.now (c.self.inside.step + 1) 0 c.self.inside.shapes.now.clumps c.self.inside.bodies c.meet_split.new.loads ≡ Ok c.advance_all.new.next =
-    subst (λ (ws : List Load). advanced_from c.self.inside.shapes.now (c.self.inside.step + 1) 0 c.self.inside.shapes.now.clumps c.self.inside.bodies ws ≡ Ok c.advance_all.new.next) loads
-    (subst (λ (bs : List Body). advanced_from c.self.inside.shapes.now (c.self.inside.step + 1) 0 c.self.inside.shapes.now.clumps bs c.as_slice-3.result.now ≡ Ok c.advance_all.new.next) (c.as_slice-2.ensures ∙ c.make.ensures.bodies_are) c.in-Ok.ensures.advanced) in
-    let made : step_of c.self.inside.shapes.now (state_at c.self.inside.shapes.now c.self.inside.step) ≡ Ok (next_state (c.self.inside.step + 1) c.advance_all.new.next (kept_of c.self.inside.contacts.list.pairs c.meet_split.new.fresh)) =
-    step-made c.self.inside.shapes.now c.self.inside.drift c.self.inside.step c.self.inside.bodies c.advance_all.new.next c.self.inside.contacts c.make.new.self.spheres.centers c.meet_split.new.loads c.meet_split.new.fresh start advanced in
+    let advanced : advanced_from c.self.inside.shapes.now (c.self.inside.step + 1) 0 c.self.inside.shapes.now.clumps c.self.inside.bodies c.meet_split.new.loads ≡ Ok c.advance_split.new.next =
+    subst (λ (ws : List Load). advanced_from c.self.inside.shapes.now (c.self.inside.step + 1) 0 c.self.inside.shapes.now.clumps c.self.inside.bodies ws ≡ Ok c.advance_split.new.next) loads
+    (subst (λ (bs : List Body). advanced_from c.self.inside.shapes.now (c.self.inside.step + 1) 0 c.self.inside.shapes.now.clumps bs c.as_slice-3.result.now ≡ Ok c.advance_split.new.next) (c.as_slice-2.ensures ∙ c.make.ensures.bodies_are) c.in-Ok.ensures.advanced) in
+    let made : step_of c.self.inside.shapes.now (state_at c.self.inside.shapes.now c.self.inside.step) ≡ Ok (next_state (c.self.inside.step + 1) c.advance_split.new.next (kept_of c.self.inside.contacts.list.pairs c.meet_split.new.fresh)) =
+    step-made c.self.inside.shapes.now c.self.inside.drift c.self.inside.step c.self.inside.bodies c.advance_split.new.next c.self.inside.contacts c.make.new.self.spheres.centers c.meet_split.new.loads c.meet_split.new.fresh start advanced in
     let items = with_items_is c.self.inside.fresh c.meet_split.new.fresh fresh_size in
     let taken : c.exchange.new.self ≡ record { list = c.self.inside.contacts.list; entries = take (length c.self.inside.contacts.list.pairs) c.meet_split.new.fresh } =
     c.exchange.ensures.taken ∙ ap (λ (es : List (Option Vec3)). let h : HeldByPlace = record { list = c.self.inside.contacts.list; entries = take (length c.self.inside.contacts.list.pairs) es } in h) items in
-    let next : state_at c.self.inside.shapes.now (c.self.inside.step + 1) ≡ next_state (c.self.inside.step + 1) c.advance_all.new.next (kept_of c.self.inside.contacts.list.pairs c.meet_split.new.fresh) =
-    state-next c.self.inside.shapes.now c.self.inside.step c.advance_all.new.next (kept_of c.self.inside.contacts.list.pairs c.meet_split.new.fresh) c.self.invariant.0.plain below made in
+    let next : state_at c.self.inside.shapes.now (c.self.inside.step + 1) ≡ next_state (c.self.inside.step + 1) c.advance_split.new.next (kept_of c.self.inside.contacts.list.pairs c.meet_split.new.fresh) =
+    state-next c.self.inside.shapes.now c.self.inside.step c.advance_split.new.next (kept_of c.self.inside.contacts.list.pairs c.meet_split.new.fresh) c.self.invariant.0.plain below made in
     record {
       step = subst (λ (r : Stepper). step_of r.scene r.state ≡ Ok (state_at c.self.inside.shapes.now (c.self.inside.step + 1))) c.self.view_is (made ∙ ap Ok (sym next));
       held = ap held_by taken ∙ kept_of-take c.self.inside.contacts.list.pairs c.meet_split.new.fresh ∙ ap (λ (x : State). x.held) (sym next);
@@ -237,12 +237,12 @@ pub invariant_of-self : goal.invariant_of-self
 invariant_of-self g c =
     let can : IsUsable c.self.inside.shapes.now c.self.inside.drift c.self.inside.step c.self.inside.contacts.list =
     usable c.self.inside.shapes.now c.self.inside.drift c.self.inside.step c.self.inside.listed c.self.inside.bodies c.self.inside.contacts c.self.invariant.0 (subst (λ (r : Stepper). IsSomeAnd r.from (λ from. r.state.step ≤ from + r.drift)) (sym c.self.view_is) c.requires.listed) in
-    let from : c.from.result ≡ c.self.inside.contacts.list.from = c.from.ensures ∙ ap (λ (l : Pairs). l.from) c.list-2.ensures.value in
+    let from : c.from.result ≡ c.self.inside.contacts.list.from = c.from.ensures ∙ ap (λ (l : Pairs). l.from) c.list.ensures.value in
     let stay : StayMarked c.self.inside.shapes.now c.self.inside.step (c.self.inside.contacts.list.from + c.self.inside.drift) c.self.inside.contacts.list.pairs c.renew.new.self =
-    marks_renewed c.self.inside.shapes.now c.self.inside.step c.steps_left.result (c.self.inside.contacts.list.from + c.self.inside.drift) c.self.inside.contacts.list.pairs c.self.inside.marks c.renew.new.self
-    c.self.inside.bodies c.make.new.self.spheres.centers c.self.invariant.3 (c.steps_left.ensures.value ∙ ap (λ n. n + c.self.inside.drift) from) c.self.invariant.0.plain c.self.invariant.0.bodies_are c.make.ensures.centers_are
+    marks_renewed c.self.inside.shapes.now c.self.inside.step c.steps_left-left.result (c.self.inside.contacts.list.from + c.self.inside.drift) c.self.inside.contacts.list.pairs c.self.inside.marks c.renew.new.self
+    c.self.inside.bodies c.make.new.self.spheres.centers c.self.invariant.3 (c.steps_left-left.ensures.value ∙ ap (λ n. n + c.self.inside.drift) from) c.self.invariant.0.plain c.self.invariant.0.bodies_are c.make.ensures.centers_are
     can.pairs.each c.renew.ensures.room
-    (subst (λ (l : Pairs). AreRenewed c.self.inside.shapes.now c.steps_left.result c.make.new.self.spheres.centers l.pairs c.self.inside.marks c.renew.new.self) c.list.ensures.value c.renew.ensures.right) in (
+    (subst (λ (l : Pairs). AreRenewed c.self.inside.shapes.now c.steps_left-left.result c.make.new.self.spheres.centers l.pairs c.self.inside.marks c.renew.new.self) c.list-2.ensures.value c.renew.ensures.right) in (
       c.self.invariant.0,
       c.self.invariant.1,
       prepared_kept _ _ _ c.self.invariant.0.sound c.make.ensures,

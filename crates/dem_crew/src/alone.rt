@@ -49,12 +49,42 @@ pub fn run_alone<R: Threads + Wait + Sync, K: Sink, N: Sink, G: Gate, L: Ledger,
     ensures counted { IfOk result (λ ran. tests.new ≤ tests.old + ran.tests) }
 {
     let mut finder = Finder::<B>::new(alloc, shapes, grid, blank);
-    let mut work = Work::new(alloc, shapes, grid, parcel, out)?;
-    let last = work.finish_alone(rt, split, &mut finder, out, note, gate, tests)?;
-    Ok(work.close(last, note)?)
+    match Work::new(alloc, shapes, grid, parcel, out) {
+        Ok(mut work) => {
+            let answer = work.run_alone(rt, split, &mut finder, out, note, gate, tests);
+            drop(work);
+            answer
+        }
+        Err(stop) => Err(stop),
+    }
 }
 
 impl<'s> Work<'s> {
+    /// Makes the run by one thread until it has ended, and writes the row of its tests; tells what it took.
+    fn run_alone<R: Threads + Wait + Sync, K: Sink, N: Sink, G: Gate, L: Ledger, B: Ledger>(
+        &mut self,
+        rt: &R,
+        split: bool,
+        finder: &mut Finder<B>,
+        out: &mut K,
+        note: &mut N,
+        gate: &G,
+        tests: &mut Steps<L>,
+    ) -> Result<Ran, WorldStop>
+        requires shapes { finder.old.shapes.now ≡ self.old.course.scene }
+        requires grid { finder.old.grid.now.drift ≡ self.old.course.drift }
+        requires few { self.old.lists ≤ lists_by self.old.course.course.from }
+        requires home { IsHome self.old }
+        ensures ran { IfOk result (λ ran. (o n : _) → IsKeptUp o (K.held out.old) n (N.held note.old) self.old → HasRun self.old.course.scene self.old.course.drift o (K.held out.new) n (N.held note.new) ran) }
+        ensures so_far { OnErr result ((o n : _) → IsKeptUp o (K.held out.old) n (N.held note.old) self.old → AppendsPrefix o (K.held out.new) (output_of self.old.course.scene)) }
+        ensures noted { OnErr result ((o n : _) → IsKeptUp o (K.held out.old) n (N.held note.old) self.old → HasNoted self.old.course.scene self.old.course.drift n (N.held note.new)) }
+        ensures faults { HasFaults (K.faults out.old) (K.faults out.new) (N.faults note.old) (N.faults note.new) result }
+        ensures counted { IfOk result (λ ran. tests.new + self.old.course.course.tests ≤ tests.old + ran.tests) }
+    {
+        let last = self.finish_alone(rt, split, finder, out, note, gate, tests)?;
+        Ok(self.close(last, note)?)
+    }
+
     /// Steps as long as the run may, and else makes a new list, until the run has ended; answers how.
     fn finish_alone<R: Threads + Wait + Sync, K: Sink, N: Sink, G: Gate, L: Ledger, B: Ledger>(
         &mut self,

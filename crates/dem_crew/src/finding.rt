@@ -124,7 +124,9 @@ impl<'a, L: Ledger> Finder<'a, L> {
         gate.pass(Point::Take, nth);
         match swap.take(seat) {
             Some(parcel) => {
-                self.pace.after(self.grid.drift(), parcel.snap.step, naps);
+                let steps = self.shapes.scene().steps;
+                self.pace
+                    .after(self.grid.drift(), steps, parcel.snap.step, naps);
                 let answered = self.answer(parcel);
                 gate.pass(Point::Deliver, nth);
                 swap.deliver(seat, answered);

@@ -7,7 +7,7 @@ const LEAST_DRIFT: u32 = 8;
 const MOST: u32 = 10_000;
 
 /// So many sleeps count, however few were ordered: by them the first snapshots tell how long a step takes.
-const FEW: u32 = 500;
+const FEW: u32 = 2_000;
 
 /// The steps of the last two snapshots that kinematics served, how often it slept before each of them, and how often it is to sleep
 /// before the next.
@@ -33,21 +33,42 @@ impl Pace {
         self.next
     }
 
-    /// Takes note of a snapshot that is served after so many sleeps, and orders those before the next. The run made the steps from the
-    /// last but one to this one after the sleeps before the last two; these are ordered anew, times the steps wanted over the steps made.
-    pub fn after(&mut self, drift: u32, step: u32, naps: u32) {
-        let made = step.saturating_sub(self.steps.0);
-        let slept = self.naps.0.saturating_add(self.naps.1);
+    /// Takes note of a snapshot of a run of so many steps that is served after so many sleeps, and orders those before the next: no
+    /// end of them where its list serves to the end of the run.
+    pub fn after(&mut self, drift: u32, steps: u32, step: u32, naps: u32) {
         let counted = counted(self.next, step, naps);
-        self.next = ordered(slept, wanted(drift), made);
+        self.next = if serves_to_the_end(drift, steps, step) {
+            u32::MAX
+        } else {
+            self.order(drift, step, counted)
+        };
         self.steps = (self.steps.1, step);
         self.naps = (self.naps.1, counted);
+    }
+
+    /// The sleeps before the snapshot behind one of this step, before which so many are counted. The run made the steps from the last
+    /// but one to this one after the sleeps before the last two; these are ordered anew, times the steps wanted over the steps made.
+    /// Until there are as many snapshots, it goes by the sleeps of the run's first steps.
+    fn order(&self, drift: u32, step: u32, counted: u32) -> u32 {
+        if self.steps.1 == 0 {
+            ordered(counted, first_wanted(drift), step)
+        } else if self.steps.0 == 0 {
+            ordered(self.naps.1, first_wanted(drift), self.steps.1)
+        } else {
+            let slept = self.naps.0.saturating_add(self.naps.1);
+            ordered(slept, wanted(drift), step.saturating_sub(self.steps.0))
+        }
     }
 }
 
 /// Whether lists come at a pace at this drift limit, and not as fast as they can be made.
 pub fn is_paced(drift: u32) -> bool {
     LEAST_DRIFT <= drift
+}
+
+/// Whether the list of a snapshot at this step may be used up to the last of so many steps.
+fn serves_to_the_end(drift: u32, steps: u32, step: u32) -> bool {
+    steps <= step.saturating_add(drift).saturating_add(1)
 }
 
 /// How many steps a run is to make from one snapshot to the next. A list is one step less old when it comes into use, and twice as old
@@ -58,6 +79,11 @@ fn wanted(drift: u32) -> u64 {
     } else {
         0
     }
+}
+
+/// The same for the first two orders, which stand on a single measure of a step: half as many.
+fn first_wanted(drift: u32) -> u64 {
+    if is_paced(drift) { drift as u64 / 5 } else { 0 }
 }
 
 /// How many of the sleeps count: none before the first state, after which no step was made, and not many more than were ordered, since

@@ -91,7 +91,12 @@ fn make_run<R: Threads + Wait + Sync, K: Sink, N: Sink, G: Gate, L: Ledger>(
     ensures faults { HasFaults (K.faults out.old) (K.faults out.new) (N.faults note.old) (N.faults note.new) result }
     ensures counted { IfOk result (λ ran. tests.new ≤ tests.old + ran.tests) }
 {
-    let mut work = Work::new(alloc, shapes, grid, parcel, out)?;
-    let last = work.finish(rt, split, swap, seat, out, note, gate, tests)?;
-    Ok(work.close(last, note)?)
+    match Work::new(alloc, shapes, grid, parcel, out) {
+        Ok(mut work) => {
+            let answer = work.run(rt, split, swap, seat, out, note, gate, tests);
+            drop(work);
+            answer
+        }
+        Err(stop) => Err(stop),
+    }
 }

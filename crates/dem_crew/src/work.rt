@@ -79,8 +79,32 @@ impl<'s> Work<'s> {
         Ok(ran)
     }
 
+    /// Makes turns until the run has ended, and writes the row of its tests; tells what it took.
+    pub fn run<R: Threads + Wait + Sync, K: Sink, N: Sink, G: Gate, L: Ledger>(
+        &mut self,
+        rt: &R,
+        split: bool,
+        swap: &Swap,
+        seat: &mut DynSeat,
+        out: &mut K,
+        note: &mut N,
+        gate: &G,
+        tests: &mut Steps<L>,
+    ) -> Result<Ran, WorldStop>
+        requires at_work { IsAtWork swap.now seat.old self.old }
+        ensures seat { seat.new.table ≡ seat.old.table }
+        ensures ran { IfOk result (λ ran. (o n : _) → IsKeptUp o (K.held out.old) n (N.held note.old) self.old → HasRun self.old.course.scene self.old.course.drift o (K.held out.new) n (N.held note.new) ran) }
+        ensures so_far { OnErr result ((o n : _) → IsKeptUp o (K.held out.old) n (N.held note.old) self.old → AppendsPrefix o (K.held out.new) (output_of self.old.course.scene)) }
+        ensures noted { OnErr result ((o n : _) → IsKeptUp o (K.held out.old) n (N.held note.old) self.old → HasNoted self.old.course.scene self.old.course.drift n (N.held note.new)) }
+        ensures faults { HasFaults (K.faults out.old) (K.faults out.new) (N.faults note.old) (N.faults note.new) result }
+        ensures counted { IfOk result (λ ran. tests.new + self.old.course.course.tests ≤ tests.old + ran.tests) }
+    {
+        let last = self.finish(rt, split, swap, seat, out, note, gate, tests)?;
+        Ok(self.close(last, note)?)
+    }
+
     /// Makes turns until the run has ended; answers how. Where there is nothing to do it rests between them.
-    pub fn finish<R: Threads + Wait + Sync, K: Sink, N: Sink, G: Gate, L: Ledger>(
+    fn finish<R: Threads + Wait + Sync, K: Sink, N: Sink, G: Gate, L: Ledger>(
         &mut self,
         rt: &R,
         split: bool,

@@ -1,9 +1,10 @@
 //! The plain run of a scene, written while it is made: the frames that are due, and then the end row.
-ghost use Rattle.std.specs.Prelude.{◌≡◌, ◌≤◌, ◌<◌, length, IfOk};
+ghost use Rattle.std.specs.Prelude.{◌≡◌, ◌≤◌, ◌<◌, true, length, IfOk};
 ghost use Rattle.dem_outside.specs.Faults.{Counts};
 ghost use Rattle.dem_outside.specs.Known.{PutAppends};
 ghost use Rattle.dem_model.specs.Output.{due_text, is_due as is_due_of};
 ghost use Rattle.dem_model.specs.Frames.{last_text};
+ghost use Rattle.dem_model.specs.Plain.{first_state};
 ghost use Rattle.dem_output.specs.Running.{MakesStep, WritesRest, WritesRun};
 ghost use Rattle.dem_output.specs.declared.running.RunFault.TheVariants as faults;
 
@@ -42,9 +43,23 @@ impl From<OutOfMemory> for RunFault {
 pub fn write_run<K: Sink>(alloc: Global, scene: &Scene, out: &mut K) -> Result<Last, RunFault>
     ensures { WritesRun scene.now (K.held out.old) (K.held out.new) (K.faults out.old) (K.faults out.new) result }
 {
-    let run = PlainRun::new(alloc, scene)?;
+    match PlainRun::new(alloc, scene) {
+        Ok(mut run) => {
+            let answer = write_whole(scene, &mut run, out);
+            drop(run);
+            answer
+        }
+        Err(OutOfMemory) => Err(RunFault::OutOfMemory),
+    }
+}
+
+// The same with a run of the scene that stands at its first state.
+fn write_whole<K: Sink>(scene: &Scene, run: &mut PlainRun, out: &mut K) -> Result<Last, RunFault>
+    requires { run.old ≡ record { scene = scene.now; state = first_state scene.now; from_first = true } }
+    ensures { WritesRun scene.now (K.held out.old) (K.held out.new) (K.faults out.old) (K.faults out.new) result }
+{
     write_due(scene, run.state(), out)?;
-    write_rest(scene, run, out)
+    write_on(scene, run, out)
 }
 
 /// Goes on with a run of a scene to its end, and writes what follows the frame of its state: the frames that are due of the states
@@ -54,8 +69,19 @@ pub fn write_rest<K: Sink>(scene: &Scene, mut run: PlainRun, out: &mut K) -> Res
     requires in_range { run.state.step ≤ scene.now.steps }
     ensures { WritesRest scene.now run.entry.state (K.held out.old) (K.held out.new) (K.faults out.old) (K.faults out.new) result }
 {
+    let answer = write_on(scene, &mut run, out);
+    drop(run);
+    answer
+}
+
+// The same with a run that is lent.
+fn write_on<K: Sink>(scene: &Scene, run: &mut PlainRun, out: &mut K) -> Result<Last, RunFault>
+    requires same { run.old.scene ≡ scene.now }
+    requires in_range { run.old.state.step ≤ scene.now.steps }
+    ensures { WritesRest scene.now run.old.state (K.held out.old) (K.held out.new) (K.faults out.old) (K.faults out.new) result }
+{
     while run.state().step < scene.steps {
-        if let Some(end) = step_on(scene, &mut run, out)? {
+        if let Some(end) = step_on(scene, run, out)? {
             return Ok(close(Last::Passed(end), out)?);
         }
     }

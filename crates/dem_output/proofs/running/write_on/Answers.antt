@@ -4,7 +4,7 @@ use Rattle.dem_model.specs.SceneValue.{SceneValue}
 use Rattle.dem_model.specs.declared.state.State.{State}
 use Rattle.dem_output.proofs.RunFacts.{StandsAt-done, LacksEnd-closed, LacksEnd-failed}
 use Rattle.dem_output.proofs.LoopFacts.{begun, goes-on, comes-nearer, comes-to-end, stopped, Rose-from}
-use Rattle.dem_output.proofs.running.write_rest.Goals as goal
+use Rattle.dem_output.proofs.running.write_on.Goals as goal
 
 -- the loop's test read the number of the run's state and the steps of the scene
 below : (n : ℕ) (s : SceneValue) (read here : State) → n ≡ s.steps → read ≡ here → read.step < n → here.step < s.steps
@@ -14,7 +14,7 @@ above : (n : ℕ) (read here : State) → read ≡ here → n ≤ read.step → 
 above n read here same le = omega (arith, ap (λ (st : State). st.step) same)
 
 pub loop-scene-init : goal.loop-scene-init
-loop-scene-init g c = begun _ _ c.args.scene.now c.args.run c.requires.same c.requires.in_range
+loop-scene-init g c = begun _ _ c.args.scene.now c.args.run.now c.requires.same c.requires.in_range
 
 pub returns-in_err-end : goal.returns-in_err-end
 returns-in_err-end g c =

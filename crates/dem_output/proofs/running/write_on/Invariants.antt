@@ -1,6 +1,6 @@
 use Rattle.std.proofs.Common.{◌-◌}
 use Rattle.dem_output.proofs.LoopFacts.{RunsOn}
-use Rattle.dem_output.proofs.running.write_rest.Given as goal
+use Rattle.dem_output.proofs.running.write_on.Given as goal
 
 abbrev pub invariant-loop-scene : goal.invariant-loop-scene
 invariant-loop-scene g l =

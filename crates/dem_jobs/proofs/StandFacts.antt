@@ -27,7 +27,7 @@ use Rattle.dem_core.proofs.SoFarFacts.{text-prefix, text-ended}
 use Rattle.dem_core.proofs.TakenFacts.{HasTaken-ended}
 use Rattle.dem_jobs.specs.TurnNotes.{reached, taken, NotesWhole}
 use Rattle.dem_jobs.specs.Verdicts.{OfTurns}
-use Rattle.dem_jobs.specs.Parts.{HasBegun, RunsTurns}
+use Rattle.dem_jobs.specs.Parts.{HasBegun, RunsTurns, RunsFrom}
 use Rattle.dem_jobs.proofs.AnswerFacts.{between}
 use Rattle.dem_jobs.proofs.TurnFacts.{rows_text-append, world_after-append, world_after-one, rows_after-append, rows_after-one, kept-after, text-after, rows-after}
 
@@ -40,6 +40,18 @@ pub record Standing (s : SceneValue) (drift bin : ℕ) (turns : List Turn) (out 
   pub rows : HasTaken s drift (taken s drift turns) (reached s drift turns).course
   pub calm_out : IsCalm out
   pub calm_note : IsCalm note
+
+-- where a run stands after these turns of a world, since any moment before the world's first frame
+abbrev pub StandsSince : (old : Turning) → List Turn → (begun now note note_now : Stream) → Turning → Type 0
+StandsSince old turns begun now note note_now t =
+    (first : Stream) → BeginsWorld old.scene (record { drift = old.drift; bin = old.bin }) first.bytes begun.bytes first.faults begun.faults (Ok old)
+    → Standing old.scene old.drift old.bin turns (between first now) (between note note_now) t
+
+-- a turn that was made, or may not be made, doesn't stop the world
+pub not-stopped : (old new : Turning) (turn : Turn) (d : Did) → Turns old new turn (Ok d) → old.stopped ≡ false → new.stopped ≡ false
+not-stopped old new turn did.Idle turned going = ap (λ (t : Turning). t.stopped) turned.1 ∙ going
+not-stopped old new turn did.Moved turned going = ap (λ (t : Turning). t.stopped) turned.1
+not-stopped old new turn (did.Closed last) turned going = ap (λ (t : Turning). t.stopped) turned.1
 
 module _ (s : SceneValue) (drift bin : ℕ) where
   -- ---- the beginning
@@ -68,6 +80,13 @@ module _ (s : SceneValue) (drift bin : ℕ) where
     calm_out = begins.2;
     calm_note = refl;
   }
+
+  -- a world that was made goes on: that is a run by these turns since before it was made
+  pub runs-from : (turns : List Turn) (a b c : Stream) (note : Change) (world : Turning) (r : Result Last WorldStop) → BeginsWorld s (record { drift = drift; bin = bin }) a.bytes b.bytes a.faults b.faults (Ok world)
+      → RunsFrom world turns (between b c) note r → RunsTurns s drift turns (between a c) note r
+  runs-from turns a b c note world r begins from =
+      subst (λ (w : Turning). RunsTurns w.scene w.drift turns (between a c) note r) begins.0
+      (from a (subst (λ (w : Turning). BeginsWorld w.scene (record { drift = w.drift; bin = w.bin }) a.bytes b.bytes a.faults b.faults (Ok world)) (sym begins.0) begins))
 
   -- ---- prefixes
 

@@ -12,6 +12,7 @@ use Rattle.dem_model.specs.declared.fault.SceneFault.TheVariants as scenes
 use Rattle.dem_output.specs.declared.running.RunFault.{RunFault}
 use Rattle.dem_output.specs.declared.running.RunFault.TheVariants as runs
 use Rattle.dem_bins.specs.declared.grid.BinTooSmall.{BinTooSmall}
+use Rattle.dem_core.specs.Worlds.{Turning, BeginsWorld}
 use Rattle.dem_core.specs.declared.did.WorldStop.{WorldStop}
 use Rattle.dem_core.specs.declared.did.WorldStop.TheVariants as worlds
 use Rattle.dem_pack.specs.declared.ask.PackFault.{PackFault}
@@ -146,6 +147,12 @@ RunsOn s notes out note (Err worlds.OutOfMemory) = HasBegun s notes out note × 
 -- a run of this scene on lists, with these turns first
 abbrev pub RunsTurns : SceneValue → ℕ → List Turn → (out note : Change) → Result Last WorldStop → Type 0
 RunsTurns s drift turns = RunsOn s (OfTurns s drift turns)
+
+-- a world whose first frame is written goes on: since the moment before that frame, this is a run by these turns
+abbrev pub RunsFrom : Turning → List Turn → (out note : Change) → Result Last WorldStop → Type 0
+RunsFrom world turns out note r =
+    (first : Stream) → BeginsWorld world.scene (record { drift = world.drift; bin = world.bin }) first.bytes out.before.bytes first.faults out.before.faults (Ok world)
+    → RunsTurns world.scene world.drift turns (record { before = first; after = out.after }) note r
 
 -- a run of this scene on lists, by two threads
 abbrev pub RunsThreads : SceneValue → ℕ → (out note : Change) → Result Last WorldStop → Type 0

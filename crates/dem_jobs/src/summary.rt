@@ -1,5 +1,5 @@
 //! What a run comes to: its last state's sum of positions and pairs that touch, and how it ends. Nothing of it is written.
-ghost use Rattle.std.specs.Prelude.{◌≡◌, ◌<◌, length, filter, All, IfOk};
+ghost use Rattle.std.specs.Prelude.{◌≡◌, ◌<◌, false, length, filter, All, IfOk};
 ghost use Rattle.dem_num.specs.Vectors.{widened};
 ghost use Rattle.dem_model.specs.Motion.{AreInside, AreSound, IsPair};
 ghost use Rattle.dem_bins.specs.Bins.{IsGridOf};
@@ -69,10 +69,27 @@ fn last_state<L: Ledger>(
     requires { IsGridOf shapes.now grid.now }
     ensures { IfOk result (λ r. IsLastState shapes.now r.0 r.1) }
 {
-    let mut snap = Snapshot::new(alloc, shapes.scene().clumps.len() as u32)?;
-    let Ok(mut world) = World::new(alloc, shapes, grid, &mut BlankSink) else {
-        return Err(OutOfMemory);
-    };
+    let snap = Snapshot::new(alloc, shapes.scene().clumps.len() as u32)?;
+    match World::new(alloc, shapes, grid, &mut BlankSink) {
+        Ok(mut world) => {
+            let answer = state_at_end(&mut world, snap, tests);
+            drop(world);
+            answer
+        }
+        Err(_) => Err(OutOfMemory),
+    }
+}
+
+// The same with a world that is lent.
+fn state_at_end<L: Ledger>(
+    world: &mut World,
+    mut snap: Snapshot,
+    tests: &mut Steps<L>,
+) -> Result<(Last, Snapshot), OutOfMemory>
+    requires goes_on { world.old.stopped ≡ false }
+    requires room { length snap.bodies ≡ length world.old.scene.clumps }
+    ensures { IfOk result (λ r. IsLastState world.old.scene r.0 r.1) }
+{
     let Ok(last) = world.finish(&mut BlankSink, &mut BlankSink, tests) else {
         return Err(OutOfMemory);
     };

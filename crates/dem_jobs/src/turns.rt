@@ -1,11 +1,11 @@
 //! The run of a scene on lists, made by given turns and then to its end, and written while it is made.
-ghost use Rattle.std.specs.Prelude.{◌≡◌, ◌<◌};
+ghost use Rattle.std.specs.Prelude.{◌≡◌, ◌<◌, false};
 ghost use Rattle.dem_outside.specs.Change.{change};
 ghost use Rattle.dem_outside.specs.Faults.{Counts};
 ghost use Rattle.dem_outside.specs.Known.{PutAppends};
 ghost use Rattle.dem_model.specs.Frames.{tests_text};
 ghost use Rattle.dem_bins.specs.Bins.{IsGridOf};
-ghost use Rattle.dem_jobs.specs.Parts.{RunsTurns};
+ghost use Rattle.dem_jobs.specs.Parts.{RunsTurns, RunsFrom};
 
 use dem_bins::Grid;
 use dem_core::{World, WorldStop};
@@ -50,12 +50,32 @@ fn counted<L: Ledger, K: Sink, N: Sink>(
     ensures { RunsTurns shapes.now grid.now.drift turns.now (change K.held K.faults out.old out.new) (change N.held N.faults note.old note.new) result }
 {
     let mut tests = Steps::<L>::new(blank);
-    let mut world = World::new(alloc, shapes, grid, out)?;
-    for turn in turns {
-        world.turn(*turn, out, note, &mut tests)?;
+    match World::new(alloc, shapes, grid, out) {
+        Ok(mut world) => {
+            let answer = turn_by_turn(&mut world, turns, out, note, &mut tests);
+            drop(world);
+            answer
+        }
+        Err(stop) => Err(stop),
     }
-    let last = world.finish(out, note, &mut tests)?;
-    write_end(note, &world)?;
+}
+
+// Makes these turns of a world that stands at its beginning, and those that are left; and writes the row of its tests.
+fn turn_by_turn<L: Ledger, K: Sink, N: Sink>(
+    world: &mut World,
+    turns: &[Turn],
+    out: &mut K,
+    note: &mut N,
+    tests: &mut Steps<L>,
+) -> Result<Last, WorldStop>
+    requires { world.old.stopped ≡ false }
+    ensures { RunsFrom world.old turns.now (change K.held K.faults out.old out.new) (change N.held N.faults note.old note.new) result }
+{
+    for turn in turns {
+        world.turn(*turn, out, note, tests)?;
+    }
+    let last = world.finish(out, note, tests)?;
+    write_end(note, world)?;
     Ok(last)
 }
 

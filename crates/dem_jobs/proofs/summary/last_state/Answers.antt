@@ -1,10 +1,10 @@
-use Rattle.std.proofs.Common.{ap}
+use Rattle.std.proofs.Common.{ap, subst}
+use Rattle.std.specs.Prelude.{IfOk}
+use Rattle.dem_model.specs.SceneValue.{SceneValue}
 use Rattle.dem_core.specs.Worlds.{Turning}
-use Rattle.dem_jobs.proofs.SummaryFacts.{is-last-state}
+use Rattle.dem_jobs.specs.Summaries.{IsLastState}
 use Rattle.dem_jobs.proofs.summary.last_state.Goals as goal
 
-pub returns : goal.returns
-returns g c =
-    let e = c.in-Ok-finish.ensures in
-    is-last-state c.args.shapes.now c.in-Ok.world c.finish.new.self e.goes_on.turns c.in-Ok-finish.last c.snapshot_into.new.snap (ap (λ (t : Turning). t.scene) c.in-Ok.ensures.0) e.goes_on.ends e.ends
-    c.now-now.ensures.course c.snapshot_into.ensures.value c.snapshot_into.ensures.of_run
+pub returns-in-Ok : goal.returns-in-Ok
+returns-in-Ok g c =
+    subst (λ (s : SceneValue). IfOk c.state_at_end-answer.result (λ r. IsLastState s r.0 r.1)) (ap (λ (t : Turning). t.scene) c.in-Ok.ensures.0) c.state_at_end-answer.ensures

@@ -1,7 +1,6 @@
 //! The sums of two parts of a step, added clump by clump, by several threads where there are many.
 
 ghost use Rattle.std.specs.Prelude.{ℕ, ◌≡◌, ◌<◌, length, slice_set, slice_index_or};
-ghost use Rattle.std.specs.Thread.{IsSync};
 ghost use Rattle.dem_model.specs.Step.{no_load};
 ghost use Rattle.dem_force.specs.Loads.{CanGrow};
 ghost use Rattle.dem_step.specs.Split.{both_loads, CanBeAdded, AreAdded};
@@ -11,49 +10,45 @@ use dem_num::add3;
 use rayon::join_mut;
 use std::thread::Threads;
 
-/// Fewer loads are added by one thread: to start threads takes longer.
-const LEAST_SHARED: usize = 2048;
+/// Fewer loads are added by one thread: to start another takes longer.
+const LEAST_SHARED: usize = 16_384;
 
-/// Adds to each load the one at its place, shared among threads by halves while there is depth left and they are many.
-#[cycle(halves)]
-pub fn add_all<R: Threads + Sync>(rt: &R, depth: u32, loads: &mut [Load], others: &[Load])
+/// Adds to each load the one at its place, the first half by another thread where they are many.
+pub fn add_all<R: Threads + Sync>(rt: &R, loads: &mut [Load], others: &[Load])
     requires can { CanBeAdded loads.old others.now }
     ensures added { AreAdded loads.old others.now loads.new (length loads.old) }
 {
-    if depth == 0 || loads.len() < LEAST_SHARED {
+    if loads.len() < LEAST_SHARED {
         add_each(loads, others);
         return;
     }
     let half = loads.len() / 2;
     let (low, high) = others.split_at(half);
     let (front, back) = loads.split_at_mut(half);
-    add_both(rt, depth, low, high, front, back);
+    add_both(rt, low, high, front, back);
 }
 
 /// Adds the loads of two parts side by side: the first in another thread, where one can be made.
-#[cycle(halves)]
 fn add_both<R: Threads + Sync>(
     rt: &R,
-    depth: u32,
     low: &[Load],
     high: &[Load],
     front: &mut [Load],
     back: &mut [Load],
 )
-    requires depth { 0 < depth }
     requires first { CanBeAdded front.old low.now }
     requires second { CanBeAdded back.old high.now }
     ensures front { AreAdded front.old low.now front.new (length front.old) }
     ensures back { AreAdded back.old high.now back.new (length back.old) }
 {
     let mut first = || -> ()
-        requires { IsSync R.row × (0 < depth) × CanBeAdded front.now low.now }
+        requires { CanBeAdded front.now low.now }
         ensures { AreAdded front.entry.now low.entry.now front.exit.now (length front.entry.now) }
-    { add_all(rt, depth - 1, front, low) };
+    { add_each(front, low) };
     let mut second = || -> ()
-        requires { IsSync R.row × (0 < depth) × CanBeAdded back.now high.now }
+        requires { CanBeAdded back.now high.now }
         ensures { AreAdded back.entry.now high.entry.now back.exit.now (length back.entry.now) }
-    { add_all(rt, depth - 1, back, high) };
+    { add_each(back, high) };
     join_mut(rt, &mut first, &mut second);
 }
 

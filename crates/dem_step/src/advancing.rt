@@ -25,8 +25,8 @@ use std::thread::Threads;
 /// Fewer clumps than these are advanced by one thread: to start threads takes longer.
 const LEAST_SPLIT: u32 = 4096;
 
-/// How often the clumps of a step are halved.
-const HALVINGS: u32 = 2;
+/// How many parts the clumps of a split step have, where they are as many.
+const PARTS: u32 = 4;
 
 /// Puts the bodies after the step of this number under these loads into `next`, or tells the first limit that a clump passes.
 /// The bodies before it are given as they are stored, and unpacked, and their matrices.
@@ -56,7 +56,7 @@ pub fn advance_all(
     )
 }
 
-/// The same as `advance_all`, its clumps shared among threads by halves.
+/// The same as `advance_all`, its clumps shared among threads by parts where they are many.
 pub fn advance_split<R: Threads + Sync>(
     rt: &R,
     next: &mut StoredBodies,
@@ -79,17 +79,19 @@ pub fn advance_split<R: Threads + Sync>(
 {
     let count = shapes.scene().clumps.len() as u32;
     let room = next.items.as_mut_slice();
+    let parts = if count < LEAST_SPLIT { 1 } else { PARTS };
+    let size = count / PARTS;
     advance_part(
-        rt, HALVINGS, 0, count, shapes, stored, bodies, matrices, loads, step, room,
+        rt, parts, size, 0, count, shapes, stored, bodies, matrices, loads, step, room,
     )
 }
 
-/// Advances the clumps from number `from` to before number `to`, shared among threads by halves while they are many and there is
-/// depth left.
-#[cycle(halves)]
+/// Advances the clumps from number `from` to before number `to`, in so many parts of this size, the last of which has all that is left.
+#[cycle(parts)]
 fn advance_part<R: Threads + Sync>(
     rt: &R,
-    depth: u32,
+    parts: u32,
+    size: u32,
     from: u32,
     to: u32,
     shapes: &Shapes,
@@ -107,16 +109,17 @@ fn advance_part<R: Threads + Sync>(
     ensures part { AdvancesBetween shapes.now step bodies.now loads.now from to (map body_of next.new) result }
     ensures room { length next.new ≡ length next.old }
 {
-    if depth == 0 || to - from < LEAST_SPLIT {
+    if parts <= 1 {
         return advance_range(
             from, to, shapes, stored, bodies, matrices, loads, step, next,
         );
     }
-    let low = (to - from) / 2;
+    let low = size.min(to - from);
     let (front, back) = next.split_at_mut(low as usize);
-    let (here, there) = both_halves(
+    let (here, there) = advance_both(
         rt,
-        depth,
+        parts,
+        size,
         from,
         from + low,
         to,
@@ -132,11 +135,13 @@ fn advance_part<R: Threads + Sync>(
     earlier(here, there)
 }
 
-/// Advances the clumps of two parts side by side: the first in another thread, where one can be made.
-#[cycle(halves)]
-fn both_halves<R: Threads + Sync>(
+/// Advances the clumps of a part and of those behind it side by side: the part in another thread, where one can be made. So this thread starts
+/// them all.
+#[cycle(parts)]
+fn advance_both<R: Threads + Sync>(
     rt: &R,
-    depth: u32,
+    parts: u32,
+    size: u32,
     from: u32,
     middle: u32,
     to: u32,
@@ -149,7 +154,7 @@ fn both_halves<R: Threads + Sync>(
     front: &mut [Stored],
     back: &mut [Stored],
 ) -> (Result<(), End>, Result<(), End>)
-    requires depth { 0 < depth }
+    requires parts { 1 < parts }
     requires can { CanAdvance shapes.now stored.now bodies.now matrices.now loads.now }
     requires first { from ≤ middle }
     requires second { middle ≤ to }
@@ -162,30 +167,21 @@ fn both_halves<R: Threads + Sync>(
     ensures back_room { length back.new ≡ length back.old }
 {
     let mut first = || -> Result<(), End>
-        requires { IsSync R.row × (0 < depth) × CanAdvance shapes.now stored.now bodies.now matrices.now loads.now × (from ≤ middle) × (middle ≤ length shapes.now.clumps) × (length front.now + from ≡ middle) }
+        requires { CanAdvance shapes.now stored.now bodies.now matrices.now loads.now × (from ≤ middle) × (middle ≤ length shapes.now.clumps) × (length front.now + from ≡ middle) }
         ensures { AdvancesBetween shapes.entry.now step bodies.entry.now loads.entry.now from middle (map body_of front.exit.now) result × (length front.exit.now ≡ length front.entry.now) }
     {
-        advance_part(
-            rt,
-            depth - 1,
-            from,
-            middle,
-            shapes,
-            stored,
-            bodies,
-            matrices,
-            loads,
-            step,
-            front,
+        advance_range(
+            from, middle, shapes, stored, bodies, matrices, loads, step, front,
         )
     };
     let mut second = || -> Result<(), End>
-        requires { IsSync R.row × (0 < depth) × CanAdvance shapes.now stored.now bodies.now matrices.now loads.now × (middle ≤ to) × (to ≤ length shapes.now.clumps) × (length back.now + middle ≡ to) }
+        requires { IsSync R.row × (1 < parts) × CanAdvance shapes.now stored.now bodies.now matrices.now loads.now × (middle ≤ to) × (to ≤ length shapes.now.clumps) × (length back.now + middle ≡ to) }
         ensures { AdvancesBetween shapes.entry.now step bodies.entry.now loads.entry.now middle to (map body_of back.exit.now) result × (length back.exit.now ≡ length back.entry.now) }
     {
         advance_part(
             rt,
-            depth - 1,
+            parts - 1,
+            size,
             middle,
             to,
             shapes,

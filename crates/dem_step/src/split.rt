@@ -28,11 +28,8 @@ use std::thread::Threads;
 /// Where fewer pairs touched in the step before, one thread makes the step: to start threads takes longer.
 const LEAST_SPLIT: usize = 4096;
 
-/// How often the list is halved.
-const HALVINGS: u32 = 2;
-
-/// The parts that this gives, but the first.
-const MORE_PARTS: u32 = 3;
+/// How many parts the list of a split step has.
+const PARTS: u32 = 4;
 
 /// Why a split step wasn't made: it passes a limit, or its memory was refused; then a step that isn't split takes none.
 #[derive(Clone, Copy, PartialEq, Debug)]
@@ -65,7 +62,7 @@ impl SplitRoom {
             torque: WIDE_ZERO,
         };
         let count = shapes.scene().clumps.len() as u32;
-        make_room(&mut self.sums, nothing, count.saturating_mul(MORE_PARTS))
+        make_room(&mut self.sums, nothing, count.saturating_mul(PARTS - 1))
     }
 }
 
@@ -93,12 +90,14 @@ pub fn meet_split<R: Threads + Sync>(
     ensures met { HaveMet shapes.now bodies.now spheres.now.centers (held_by contacts.now) contacts.now.list.pairs loads.new fresh.new }
     ensures room { length fresh.new ≡ length fresh.old }
 {
-    let depth = halvings(room.touching, loads.len());
+    let parts = parts_of(room.touching, loads.len());
+    let pairs = contacts.list().len();
     room.touching = meet_part(
         rt,
-        depth,
+        parts,
+        pairs / PARTS,
         0,
-        contacts.list().len(),
+        pairs,
         shapes,
         spheres,
         bodies,
@@ -110,22 +109,23 @@ pub fn meet_split<R: Threads + Sync>(
     );
 }
 
-/// How often the list of a step is halved, by how many pairs touched in the step before: not at all where they are few, by themselves
-/// or beside the clumps, since the sums of each part are added clump by clump.
-fn halvings(touching: u32, clumps: usize) -> u32 {
+/// How many parts the list of a step has, by how many pairs touched in the step before: one where they are few, by themselves or
+/// beside the clumps, since the sums of each part are added clump by clump.
+fn parts_of(touching: u32, clumps: usize) -> u32 {
     if (touching as usize) < LEAST_SPLIT.max(clumps) {
-        0
+        1
     } else {
-        HALVINGS
+        PARTS
     }
 }
 
-/// The meetings of the pairs from place `from` to before place `to`, shared among threads by halves while there is depth and room for
-/// their sums left. It tells how many of them touch.
-#[cycle(halves)]
+/// The meetings of the pairs from place `from` to before place `to`, in so many parts of this size, the last of which has all that
+/// is left, or in one where there is no room for more sums. It tells how many of them touch.
+#[cycle(parts)]
 fn meet_part<R: Threads + Sync>(
     rt: &R,
-    depth: u32,
+    parts: u32,
+    size: u32,
     from: u32,
     to: u32,
     shapes: &Shapes,
@@ -145,17 +145,18 @@ fn meet_part<R: Threads + Sync>(
     ensures met { HaveMet shapes.now bodies.now spheres.now.centers (held_by contacts.now) (pairs_between from to contacts.now.list.pairs) loads.new fresh.new }
     ensures room { length fresh.new ≡ length fresh.old }
 {
-    if depth == 0 || sums.len() < loads.len() {
+    if parts <= 1 || sums.len() < loads.len() {
         return meet_range(
             from, to, shapes, spheres, bodies, contacts, marks, loads, fresh,
         );
     }
     let (own, rest) = sums.split_at_mut(loads.len());
-    let low = (to - from) / 2;
+    let low = size.min(to - from);
     let (front, back) = fresh.split_at_mut(low as usize);
-    let touching = both_halves(
+    let touching = meet_both(
         rt,
-        depth,
+        parts,
+        size,
         from,
         from + low,
         to,
@@ -170,15 +171,17 @@ fn meet_part<R: Threads + Sync>(
         front,
         back,
     );
-    add_all(rt, depth, loads, own);
+    add_all(rt, loads, own);
     touching
 }
 
-/// The meetings of two parts of the list, side by side: the first in another thread, where one can be made.
-#[cycle(halves)]
-fn both_halves<R: Threads + Sync>(
+/// The meetings of a part of the list and of those behind it, side by side: the part in another thread, where one can be made. So this thread
+/// starts them all.
+#[cycle(parts)]
+fn meet_both<R: Threads + Sync>(
     rt: &R,
-    depth: u32,
+    parts: u32,
+    size: u32,
     from: u32,
     middle: u32,
     to: u32,
@@ -193,7 +196,7 @@ fn both_halves<R: Threads + Sync>(
     front: &mut [Option<Vec3>],
     back: &mut [Option<Vec3>],
 ) -> u32
-    requires depth { 0 < depth }
+    requires parts { 1 < parts }
     requires ready { IsReady shapes.now bodies.now spheres.now contacts.now marks.now }
     requires first { from ≤ middle }
     requires second { middle ≤ to }
@@ -207,34 +210,22 @@ fn both_halves<R: Threads + Sync>(
     ensures front_room { length front.new ≡ length front.old }
     ensures back_room { length back.new ≡ length back.old }
 {
-    let half = rest.len() / 2;
-    let (ahead, behind) = rest.split_at_mut(half);
     let mut first = || -> u32
-        requires { IsSync R.row × (0 < depth) × IsReady shapes.now bodies.now spheres.now contacts.now marks.now × (from ≤ middle) × (middle ≤ length contacts.now.list.pairs) × (length loads.now ≡ length shapes.now.clumps) × (middle ≤ length front.now + from) }
+        requires { IsReady shapes.now bodies.now spheres.now contacts.now marks.now × (from ≤ middle) × (middle ≤ length contacts.now.list.pairs) × (length loads.now ≡ length shapes.now.clumps) × (middle ≤ length front.now + from) }
         ensures { HaveMet shapes.entry.now bodies.entry.now spheres.entry.now.centers (held_by contacts.entry.now) (pairs_between from middle contacts.entry.now.list.pairs) loads.exit.now front.exit.now × (length front.exit.now ≡ length front.entry.now) }
     {
-        meet_part(
-            rt,
-            depth - 1,
-            from,
-            middle,
-            shapes,
-            spheres,
-            bodies,
-            contacts,
-            marks,
-            loads,
-            ahead,
-            front,
+        meet_range(
+            from, middle, shapes, spheres, bodies, contacts, marks, loads, front,
         )
     };
     let mut second = || -> u32
-        requires { IsSync R.row × (0 < depth) × IsReady shapes.now bodies.now spheres.now contacts.now marks.now × (middle ≤ to) × (to ≤ length contacts.now.list.pairs) × (length own.now ≡ length shapes.now.clumps) × (to ≤ length back.now + middle) }
+        requires { IsSync R.row × (1 < parts) × IsReady shapes.now bodies.now spheres.now contacts.now marks.now × (middle ≤ to) × (to ≤ length contacts.now.list.pairs) × (length own.now ≡ length shapes.now.clumps) × (to ≤ length back.now + middle) }
         ensures { HaveMet shapes.entry.now bodies.entry.now spheres.entry.now.centers (held_by contacts.entry.now) (pairs_between middle to contacts.entry.now.list.pairs) own.exit.now back.exit.now × (length back.exit.now ≡ length back.entry.now) }
     {
         meet_part(
             rt,
-            depth - 1,
+            parts - 1,
+            size,
             middle,
             to,
             shapes,
@@ -243,7 +234,7 @@ fn both_halves<R: Threads + Sync>(
             contacts,
             marks,
             own,
-            behind,
+            rest,
             back,
         )
     };

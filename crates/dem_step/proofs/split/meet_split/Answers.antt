@@ -11,20 +11,20 @@ meet_part-room-requires-clause-ready g c κs within = record {
   centers = c.requires.centers;
   sides = c.requires.sides;
   pairs = c.requires.pairs;
-  ascends = subst (λ (l : Pairs). IsAscending l.pairs) c.list.ensures.value c.len.ensures.ascending;
+  ascends = subst (λ (l : Pairs). IsAscending l.pairs) c.list.ensures.value c.len-pairs.ensures.ascending;
   within = c.requires.within;
   room = c.requires.marks;
   marked = c.requires.marked;
 }
 
 pub meet_part-room-requires-clause-there : goal.meet_part-room-requires-clause-there
-meet_part-room-requires-clause-there g c κs within = omega (arith, c.len.ensures.value, ap (λ (l : Pairs). length l.pairs) c.list.ensures.value)
+meet_part-room-requires-clause-there g c κs within = omega (arith, c.len-pairs.ensures.value, ap (λ (l : Pairs). length l.pairs) c.list.ensures.value)
 
 pub meet_part-room-requires-clause-fresh : goal.meet_part-room-requires-clause-fresh
-meet_part-room-requires-clause-fresh g c κs within = omega (arith, c.requires.fresh, c.len.ensures.value, ap (λ (l : Pairs). length l.pairs) c.list.ensures.value)
+meet_part-room-requires-clause-fresh g c κs within = omega (arith, c.requires.fresh, c.len-pairs.ensures.value, ap (λ (l : Pairs). length l.pairs) c.list.ensures.value)
 
 pub returns-clause-met : goal.returns-clause-met
 returns-clause-met g c =
     subst (λ (ps : List Pair). HaveMet c.args.shapes.now c.args.bodies.now c.args.spheres.now.centers (held_by c.args.contacts.now) ps c.meet_part-room.new.loads c.meet_part-room.new.fresh)
-    (between-whole c.len.result c.args.contacts.now.list.pairs (c.len.ensures.value ∙ ap (λ (l : Pairs). length l.pairs) c.list.ensures.value))
+    (between-whole c.len-pairs.result c.args.contacts.now.list.pairs (c.len-pairs.ensures.value ∙ ap (λ (l : Pairs). length l.pairs) c.list.ensures.value))
     c.meet_part-room.ensures.met

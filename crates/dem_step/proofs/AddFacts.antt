@@ -1,15 +1,11 @@
 -- Loads that are added place by place.
-use Rattle.std.proofs.Common.{◌≡◌, ℕ, ◌+◌, ◌<◌, List, length, get_or, refl, ap, ◌∙◌, subst, arith, inl, inr}
+use Rattle.std.proofs.Common.{◌≡◌, ℕ, ◌+◌, ◌<◌, List, length, get_or, ap, ◌∙◌, subst, arith, inl, inr}
 use Rattle.std.specs.Prelude.{slice_set}
 use Rattle.std.proofs.lemmas.Bool.{cases_lt}
 use Rattle.std.proofs.lemmas.List.{get_or-set_other, get_or-set_same, length-set}
 use Rattle.dem_model.specs.Step.{no_load}
 use Rattle.dem_model.specs.declared.law.Load.{Load}
 use Rattle.dem_step.specs.Split.{both_loads, AreAdded}
-
--- no load is added yet
-pub added-none : (old others : List Load) → AreAdded old others old 0
-added-none old others = record { size = refl; done = λ c lt below. absurd (omega (arith, lt)); rest = λ c le. refl }
 
 -- one more load is added
 pub added-more : (old others now : List Load) (i : ℕ) → i < length old → AreAdded old others now i →

@@ -12,3 +12,4 @@ pub mod AdvanceFacts
 pub mod AheadFacts
 pub mod HandFacts
 pub mod AddFacts
+pub mod FeltFacts

@@ -75,7 +75,7 @@ sum-nothing a =
     λ k. record { x = x k; y = y k; z = z k }
 
 -- no load adds nothing
-both-nothing : (w : Load) → both_loads w no_load ≡ w
+pub both-nothing : (w : Load) → both_loads w no_load ≡ w
 both-nothing w = λ k. record { force = sum-nothing w.force k; torque = sum-nothing w.torque k }
 
 -- what a clump feels of these meetings and those

@@ -7,3 +7,4 @@ pub mod Marks
 pub mod Split
 pub mod Advancing
 pub mod Ahead
+pub mod Felt

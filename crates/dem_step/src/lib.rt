@@ -13,6 +13,7 @@
 mod adding;
 mod advancing;
 mod ahead;
+mod felt;
 mod marks;
 mod meeting;
 mod prepared;

@@ -10,9 +10,11 @@ ghost use Rattle.dem_force.specs.Stored.{IsStored};
 ghost use Rattle.dem_step.specs.Contacts.{ArePairs, held_by};
 ghost use Rattle.dem_step.specs.Inside.{loads_after, displacement_of, IsSmallMeeting, HaveMet};
 ghost use Rattle.dem_step.specs.Marks.{AreMarked};
+ghost use Rattle.dem_step.specs.Felt.{AreFelt};
 ghost use Rattle.dem_step.specs.Split.{pairs_between, IsReady};
 
-use crate::adding::add_all;
+use crate::adding::add_felt;
+use crate::felt::Felt;
 use crate::marks::Marks;
 use crate::meeting::{clear, meet_pair};
 use crate::room::make_room;
@@ -92,7 +94,7 @@ pub fn meet_split<R: Threads + Sync>(
 {
     let parts = parts_of(room.touching, loads.len());
     let pairs = contacts.list().len();
-    room.touching = meet_part(
+    let felt = meet_part(
         rt,
         parts,
         pairs / PARTS,
@@ -107,6 +109,7 @@ pub fn meet_split<R: Threads + Sync>(
         room.sums.as_mut_slice(),
         fresh,
     );
+    room.touching = felt.touching;
 }
 
 /// How many parts the list of a step has, by how many pairs touched in the step before: one where they are few, by themselves or
@@ -120,7 +123,7 @@ fn parts_of(touching: u32, clumps: usize) -> u32 {
 }
 
 /// The meetings of the pairs from place `from` to before place `to`, in so many parts of this size, the last of which has all that
-/// is left, or in one where there is no room for more sums. It tells how many of them touch.
+/// is left, or in one where there is no room for more sums. It tells how many of them touch, and which clumps they push.
 #[cycle(parts)]
 fn meet_part<R: Threads + Sync>(
     rt: &R,
@@ -136,12 +139,13 @@ fn meet_part<R: Threads + Sync>(
     loads: &mut [Load],
     sums: &mut [Load],
     fresh: &mut [Option<Vec3>],
-) -> u32
+) -> Felt
     requires ready { IsReady shapes.now bodies.now spheres.now contacts.now marks.now }
     requires order { from ≤ to }
     requires there { to ≤ length contacts.now.list.pairs }
     requires loads { length loads.old ≡ length shapes.now.clumps }
     requires fresh { to ≤ length fresh.old + from }
+    ensures felt { AreFelt result loads.new }
     ensures met { HaveMet shapes.now bodies.now spheres.now.centers (held_by contacts.now) (pairs_between from to contacts.now.list.pairs) loads.new fresh.new }
     ensures room { length fresh.new ≡ length fresh.old }
 {
@@ -153,7 +157,7 @@ fn meet_part<R: Threads + Sync>(
     let (own, rest) = sums.split_at_mut(loads.len());
     let low = size.min(to - from);
     let (front, back) = fresh.split_at_mut(low as usize);
-    let touching = meet_both(
+    let (here, there) = meet_both(
         rt,
         parts,
         size,
@@ -171,8 +175,8 @@ fn meet_part<R: Threads + Sync>(
         front,
         back,
     );
-    add_all(rt, loads, own);
-    touching
+    add_felt(loads, own, &there);
+    here.both(there)
 }
 
 /// The meetings of a part of the list and of those behind it, side by side: the part in another thread, where one can be made. So this thread
@@ -195,7 +199,7 @@ fn meet_both<R: Threads + Sync>(
     rest: &mut [Load],
     front: &mut [Option<Vec3>],
     back: &mut [Option<Vec3>],
-) -> u32
+) -> (Felt, Felt)
     requires parts { 1 < parts }
     requires ready { IsReady shapes.now bodies.now spheres.now contacts.now marks.now }
     requires first { from ≤ middle }
@@ -205,22 +209,24 @@ fn meet_both<R: Threads + Sync>(
     requires own { length own.old ≡ length shapes.now.clumps }
     requires front { middle ≤ length front.old + from }
     requires back { to ≤ length back.old + middle }
+    ensures front_felt { AreFelt result.0 loads.new }
+    ensures back_felt { AreFelt result.1 own.new }
     ensures front { HaveMet shapes.now bodies.now spheres.now.centers (held_by contacts.now) (pairs_between from middle contacts.now.list.pairs) loads.new front.new }
     ensures back { HaveMet shapes.now bodies.now spheres.now.centers (held_by contacts.now) (pairs_between middle to contacts.now.list.pairs) own.new back.new }
     ensures front_room { length front.new ≡ length front.old }
     ensures back_room { length back.new ≡ length back.old }
 {
-    let mut first = || -> u32
+    let mut first = || -> Felt
         requires { IsReady shapes.now bodies.now spheres.now contacts.now marks.now × (from ≤ middle) × (middle ≤ length contacts.now.list.pairs) × (length loads.now ≡ length shapes.now.clumps) × (middle ≤ length front.now + from) }
-        ensures { HaveMet shapes.entry.now bodies.entry.now spheres.entry.now.centers (held_by contacts.entry.now) (pairs_between from middle contacts.entry.now.list.pairs) loads.exit.now front.exit.now × (length front.exit.now ≡ length front.entry.now) }
+        ensures { AreFelt result loads.exit.now × HaveMet shapes.entry.now bodies.entry.now spheres.entry.now.centers (held_by contacts.entry.now) (pairs_between from middle contacts.entry.now.list.pairs) loads.exit.now front.exit.now × (length front.exit.now ≡ length front.entry.now) }
     {
         meet_range(
             from, middle, shapes, spheres, bodies, contacts, marks, loads, front,
         )
     };
-    let mut second = || -> u32
+    let mut second = || -> Felt
         requires { IsSync R.row × (1 < parts) × IsReady shapes.now bodies.now spheres.now contacts.now marks.now × (middle ≤ to) × (to ≤ length contacts.now.list.pairs) × (length own.now ≡ length shapes.now.clumps) × (to ≤ length back.now + middle) }
-        ensures { HaveMet shapes.entry.now bodies.entry.now spheres.entry.now.centers (held_by contacts.entry.now) (pairs_between middle to contacts.entry.now.list.pairs) own.exit.now back.exit.now × (length back.exit.now ≡ length back.entry.now) }
+        ensures { AreFelt result own.exit.now × HaveMet shapes.entry.now bodies.entry.now spheres.entry.now.centers (held_by contacts.entry.now) (pairs_between middle to contacts.entry.now.list.pairs) own.exit.now back.exit.now × (length back.exit.now ≡ length back.entry.now) }
     {
         meet_part(
             rt,
@@ -238,11 +244,10 @@ fn meet_both<R: Threads + Sync>(
             back,
         )
     };
-    let (here, there) = join_mut(rt, &mut first, &mut second);
-    here.saturating_add(there)
+    join_mut(rt, &mut first, &mut second)
 }
 
-/// The meetings of a part of the list on this thread; it tells how many pairs touch.
+/// The meetings of a part of the list on this thread; it tells how many pairs touch, and which clumps they push.
 fn meet_range(
     from: u32,
     to: u32,
@@ -253,27 +258,28 @@ fn meet_range(
     marks: &Marks,
     loads: &mut [Load],
     fresh: &mut [Option<Vec3>],
-) -> u32
+) -> Felt
     requires ready { IsReady shapes.now bodies.now spheres.now contacts.now marks.now }
     requires order { from ≤ to }
     requires there { to ≤ length contacts.now.list.pairs }
     requires loads { length loads.old ≡ length shapes.now.clumps }
     requires fresh { to ≤ length fresh.old + from }
+    ensures felt { AreFelt result loads.new }
     ensures met { HaveMet shapes.now bodies.now spheres.now.centers (held_by contacts.now) (pairs_between from to contacts.now.list.pairs) loads.new fresh.new }
     ensures room { length fresh.new ≡ length fresh.old }
 {
     clear(loads);
-    let mut touching = 0u32;
+    let mut felt = Felt::nothing();
     for i in from..to {
         if marks.is_met(i) {
             let pair = contacts.list().get(i);
             let held = contacts.held(i);
             let entry = meet_pair(loads, shapes, spheres, bodies, pair, held);
-            touching = touching.saturating_add(entry.is_some() as u32);
+            felt = felt.after(&entry, shapes, pair);
             fresh[(i - from) as usize] = entry;
         } else {
             fresh[(i - from) as usize] = None;
         }
     }
-    touching
+    felt
 }

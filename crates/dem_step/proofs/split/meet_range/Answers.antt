@@ -9,6 +9,7 @@ use Rattle.dem_list.specs.Ascending.{Pairs}
 use Rattle.dem_hist.proofs.CarryFacts.{entry-here}
 use Rattle.dem_step.specs.Contacts.{held_by}
 use Rattle.dem_step.specs.Marks.{is_met}
+use Rattle.dem_step.proofs.FeltFacts.{felt-none, felt-more}
 use Rattle.dem_step.proofs.RoomFacts.{all-read, length-set}
 use Rattle.dem_step.proofs.SplitFacts.{between-none, between-more, between-unmet, loads-between}
 use Rattle.dem_step.proofs.split.meet_range.Goals as goal
@@ -20,6 +21,7 @@ loop-i-init c = (
       c.clear.ensures c.requires.loads,
   refl,
   omega arith,
+  felt-none c.nothing-felt.result (length c.args.loads.now) c.clear.new.loads c.clear.ensures,
 )
 
 pub meet_pair-entry-requires-clause-pair : goal.meet_pair-entry-requires-clause-pair
@@ -48,18 +50,21 @@ loop-i-preserved c =
           entry-here c.args.contacts.now.list.pairs c.args.contacts.now.entries c.loop-i.i w.get-pair.result c.requires.ready.ascends w.list.ensures.as_many lt
           (λ d. get_or_from_slice_get c.args.contacts.now.list.pairs c.loop-i.i w.get-pair.result d there)
           ∙ get_or_from_slice_get c.args.contacts.now.entries c.loop-i.i w.held-held.result None w.held-held.ensures in
-          rw (w.loads-is, w.fresh-is) (
+          rw (w.loads-is, w.fresh-is, w.felt-is) (
             between-more c.args.shapes.now c.args.bodies.now c.args.spheres.now.centers (held_by c.args.contacts.now) c.args.contacts.now.list.pairs c.args.from c.loop-i.i w.get-pair.result w.held-held.result
                 c.loop-i.loads w.meet_pair-entry.new.loads c.loop-i.fresh w.meet_pair-entry.result c.loop-i.invariant.2 there held room w.meet_pair-entry.ensures.loads w.meet_pair-entry.ensures.entry w.meet_pair-entry.ensures.small c.loop-i.invariant.0,
             length-set c.loop-i.fresh (c.loop-i.i - c.args.from) w.meet_pair-entry.result ∙ c.loop-i.invariant.1,
             omega (arith, c.loop-i.invariant.2),
+            felt-more c.args.shapes.now c.args.bodies.now c.args.spheres.now.centers w.get-pair.result w.held-held.result c.loop-i.loads w.meet_pair-entry.new.loads w.meet_pair-entry.result c.loop-i.felt w.after-felt.result
+                w.meet_pair-entry.ensures.loads w.meet_pair-entry.ensures.entry w.after-felt.ensures c.loop-i.invariant.3,
           )
       | else-is_met w ↦
           let unmet : is_met c.args.marks.now c.loop-i.i ≡ false = sym c.is_met.ensures ∙ w.if-is_met.false in
-          rw (w.loads-is, w.fresh-is) (
+          rw (w.loads-is, w.fresh-is, w.felt-is) (
             between-unmet c.args.shapes.now c.args.bodies.now c.args.spheres.now.centers (held_by c.args.contacts.now) c.args.contacts.now.list.pairs c.args.marks.now c.args.from c.loop-i.i
                 c.loop-i.loads c.loop-i.fresh c.requires.ready.marked unmet c.loop-i.invariant.2 lt room c.loop-i.invariant.0,
             length-set c.loop-i.fresh (c.loop-i.i - c.args.from) None ∙ c.loop-i.invariant.1,
             omega (arith, c.loop-i.invariant.2),
+            c.loop-i.invariant.3,
           )
     ]

@@ -6,8 +6,8 @@ use Rattle.dem_step.specs.Inside.{HaveMet}
 use Rattle.dem_step.proofs.SplitFacts.{between-whole}
 use Rattle.dem_step.proofs.split.meet_split.Goals as goal
 
-pub meet_part-room-requires-clause-ready : goal.meet_part-room-requires-clause-ready
-meet_part-room-requires-clause-ready g c κs within = record {
+pub meet_part-felt-requires-clause-ready : goal.meet_part-felt-requires-clause-ready
+meet_part-felt-requires-clause-ready g c κs within = record {
   centers = c.requires.centers;
   sides = c.requires.sides;
   pairs = c.requires.pairs;
@@ -17,14 +17,14 @@ meet_part-room-requires-clause-ready g c κs within = record {
   marked = c.requires.marked;
 }
 
-pub meet_part-room-requires-clause-there : goal.meet_part-room-requires-clause-there
-meet_part-room-requires-clause-there g c κs within = omega (arith, c.len-pairs.ensures.value, ap (λ (l : Pairs). length l.pairs) c.list.ensures.value)
+pub meet_part-felt-requires-clause-there : goal.meet_part-felt-requires-clause-there
+meet_part-felt-requires-clause-there g c κs within = omega (arith, c.len-pairs.ensures.value, ap (λ (l : Pairs). length l.pairs) c.list.ensures.value)
 
-pub meet_part-room-requires-clause-fresh : goal.meet_part-room-requires-clause-fresh
-meet_part-room-requires-clause-fresh g c κs within = omega (arith, c.requires.fresh, c.len-pairs.ensures.value, ap (λ (l : Pairs). length l.pairs) c.list.ensures.value)
+pub meet_part-felt-requires-clause-fresh : goal.meet_part-felt-requires-clause-fresh
+meet_part-felt-requires-clause-fresh g c κs within = omega (arith, c.requires.fresh, c.len-pairs.ensures.value, ap (λ (l : Pairs). length l.pairs) c.list.ensures.value)
 
 pub returns-clause-met : goal.returns-clause-met
 returns-clause-met g c =
-    subst (λ (ps : List Pair). HaveMet c.args.shapes.now c.args.bodies.now c.args.spheres.now.centers (held_by c.args.contacts.now) ps c.meet_part-room.new.loads c.meet_part-room.new.fresh)
+    subst (λ (ps : List Pair). HaveMet c.args.shapes.now c.args.bodies.now c.args.spheres.now.centers (held_by c.args.contacts.now) ps c.meet_part-felt.new.loads c.meet_part-felt.new.fresh)
     (between-whole c.len-pairs.result c.args.contacts.now.list.pairs (c.len-pairs.ensures.value ∙ ap (λ (l : Pairs). length l.pairs) c.list.ensures.value))
-    c.meet_part-room.ensures.met
+    c.meet_part-felt.ensures.met

@@ -67,7 +67,8 @@ fn takes_bins_up_to_eight_cells(rt: HostRuntime) -> Result<(), TestFail> {
 #[test]
 fn steps_while_the_next_list_is_found(rt: HostRuntime) -> Result<(), TestFail> {
     let gate = HoldGate::meet(Point::Step, 4, Point::Deliver, 2);
-    let left = call(&rt, &["dem", "run"], MEETING, &gate)?;
+    let words = ["dem", "run", "--drift", "3"];
+    let left = call(&rt, words.as_slice(), MEETING, &gate)?;
     assert!(rt; gate.arrived() && !gate.gave_up());
     assert_eq!(rt; left.status, 0);
     assert_eq!(rt; left.out.held(), MEETING_OUT);

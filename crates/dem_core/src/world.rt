@@ -57,15 +57,20 @@ impl<'s> World<'s> {
     {
         let clumps = shapes.scene().clumps.len() as u32;
         let parcel = Parcel::new(alloc, clumps)?;
-        let course = Course::new(alloc, shapes, grid.drift(), out)?;
-        Ok(World {
-            alloc,
-            shapes,
-            grid,
-            course,
-            parcel,
-            stopped: false,
-        })
+        match Course::new(alloc, shapes, grid.drift(), out) {
+            Ok(course) => Ok(World {
+                alloc,
+                shapes,
+                grid,
+                course,
+                parcel,
+                stopped: false,
+            }),
+            Err(stop) => {
+                drop(parcel);
+                Err(stop)
+            }
+        }
     }
 
     /// Makes one turn, if the world may take it. Post, Take and Step take no memory; Deliver and Collect may be refused it, and

@@ -16,6 +16,17 @@ const ROOM: u32 = 1 << 20;
 /// The most bytes of a read.
 const MOST: u64 = 4096;
 
+/// What a call's gate does.
+#[derive(Clone, Copy)]
+pub enum Hold {
+    /// All pass at once.
+    Open,
+    /// The third post is held for the third step, which dynamics makes itself: it waits in vain, and goes on.
+    Vain,
+    /// The fourth step and the delivery of the second list are held until both are there.
+    Meet,
+}
+
 /// A call over memory.
 #[derive(Clone, Copy)]
 pub struct Case<'l> {
@@ -25,24 +36,25 @@ pub struct Case<'l> {
     pub piece: u32,
     /// The number of the read that fails, 0 for none.
     pub read: u64,
-    /// The number of the put to the output that fails and takes nothing, 0 for none.
-    pub put: u64,
+    /// The put to the output that fails, of the number 0 for none, and how many bytes it takes before.
+    pub put: Fail,
     /// The same of the puts to the notes.
-    pub line: u64,
-    /// Whether a gate holds the third post for the third step, which dynamics makes itself: it waits in vain, and goes on.
-    pub held: bool,
+    pub line: Fail,
+    /// What the gate does.
+    pub hold: Hold,
     /// What the source has, with a bar for each newline.
     pub text: &'l str,
 }
 
 impl<'l> Case<'l> {
-    /// The case of a line: these seven in order, a bar between two; the gate is `held` or `open`.
+    /// The case of a line: these seven in order, a bar between two; a put that takes bytes is its number, a plus sign, and how many
+    /// it takes; the gate is `open`, `held` in vain, or `met`.
     pub fn of(line: &'l str) -> Option<Case<'l>> {
         let (words, rest) = line.split_once('|')?;
         let (piece, rest) = number(rest)?;
         let (read, rest) = number(rest)?;
-        let (put, rest) = number(rest)?;
-        let (line, rest) = number(rest)?;
+        let (put, rest) = fail(rest)?;
+        let (line, rest) = fail(rest)?;
         let (gate, text) = rest.split_once('|')?;
         Some(Case {
             words,
@@ -50,7 +62,7 @@ impl<'l> Case<'l> {
             read,
             put,
             line,
-            held: gate == "held",
+            hold: hold_named(gate),
             text,
         })
     }
@@ -66,21 +78,50 @@ impl<'l> Case<'l> {
         let mut out = sink(alloc, self.put)?;
         let mut note = sink(alloc, self.line)?;
         let words = words.as_slice();
-        let status = if self.held {
-            let gate = HoldGate::meet(Point::Post, 3, Point::Step, 3);
-            main_call(rt, alloc, words, &mut source, &mut out, &mut note, &gate)
-        } else {
-            main_call(
-                rt,
-                alloc,
-                words,
-                &mut source,
-                &mut out,
-                &mut note,
-                &OpenGate,
-            )
+        let (status, met) = match self.hold {
+            Hold::Open => {
+                let gate = OpenGate;
+                let status = main_call(rt, alloc, words, &mut source, &mut out, &mut note, &gate);
+                (status, None)
+            }
+            Hold::Vain => {
+                let gate = HoldGate::meet(Point::Post, 3, Point::Step, 3);
+                held_call(rt, alloc, words, &mut source, &mut out, &mut note, &gate)
+            }
+            Hold::Meet => {
+                let gate = HoldGate::meet(Point::Step, 4, Point::Deliver, 2);
+                held_call(rt, alloc, words, &mut source, &mut out, &mut note, &gate)
+            }
         };
-        Ok(Left { status, out, note })
+        Ok(Left {
+            status,
+            out,
+            note,
+            met,
+        })
+    }
+}
+
+// The call through a gate that holds: its status, and whether both actions met there and none waited in vain.
+fn held_call<R: Threads + Wait + Sync>(
+    rt: &R,
+    alloc: Global,
+    words: &[String],
+    source: &mut MemSource,
+    out: &mut MemSink,
+    note: &mut MemSink,
+    gate: &HoldGate,
+) -> (u8, Option<bool>) {
+    let status = main_call(rt, alloc, words, source, out, note, gate);
+    (status, Some(gate.arrived() && !gate.gave_up()))
+}
+
+// What a gate of this name does.
+fn hold_named(gate: &str) -> Hold {
+    match gate {
+        "held" => Hold::Vain,
+        "met" => Hold::Meet,
+        _ => Hold::Open,
     }
 }
 
@@ -90,6 +131,16 @@ fn number(text: &str) -> Option<(u64, &str)> {
     match digits.parse::<u64>() {
         Ok(number) => Some((number, rest)),
         Err(_) => None,
+    }
+}
+
+// The put before the next bar that fails, and what stands behind that.
+fn fail(text: &str) -> Option<(Fail, &str)> {
+    let (put, rest) = text.split_once('|')?;
+    let (call, take) = put.split_once('+').unwrap_or((put, "0"));
+    match (call.parse::<u64>(), take.parse::<u32>()) {
+        (Ok(call), Ok(take)) => Some((Fail { call, take }, rest)),
+        _ => None,
     }
 }
 
@@ -130,8 +181,8 @@ fn bytes_of(alloc: Global, text: &str) -> Result<Vec<u8>, OutOfMemory> {
 }
 
 // A sink of which this put fails.
-fn sink(alloc: Global, put: u64) -> Result<MemSink, OutOfMemory> {
+fn sink(alloc: Global, put: Fail) -> Result<MemSink, OutOfMemory> {
     let mut fails = List::new(alloc);
-    fails.push(Fail { call: put, take: 0 })?;
+    fails.push(put)?;
     MemSink::new(alloc, ROOM, fails)
 }

@@ -9,6 +9,8 @@ pub struct Left {
     pub status: u8,
     pub out: MemSink,
     pub note: MemSink,
+    /// Whether both actions met at the gate and none waited there in vain; None where all passed at once.
+    pub met: Option<bool>,
 }
 
 impl Display for Left {
@@ -22,6 +24,11 @@ impl Display for Left {
             out.len(),
             checksum(out)
         )?;
+        match self.met {
+            Some(true) => f.write_str("; both met")?,
+            Some(false) => f.write_str("; one waited in vain")?,
+            None => {}
+        }
         match std::str::from_utf8(self.note.held()) {
             Ok(notes) => write_notes(notes, f),
             Err(_) => f.write_str("; NO TEXT"),

@@ -1,4 +1,4 @@
-//! Whole calls over memory in which a read or a put fails, a text is refused, or a gate holds the threads: prints what each leaves.
+//! Whole calls over memory, some in which a read or a put fails, a text or words are refused, or a gate holds the threads: prints what each leaves.
 //!
 //! Reads cases, one a line (`Case::of`), and prints of each the status, the rows, the bytes and the checksum of the output, and the notes.
 //! What is printed is the same each time. Not here: any promise (dem_top).

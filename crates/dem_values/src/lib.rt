@@ -1,9 +1,11 @@
 //! Tests of the calls below the run, by worked values.
 //!
 //! One module for each crate that is tested. A crate with tests of its own is proved a second time for them; here only the tests are.
-//! Not here: tests of what is private to a crate (its own), of whole calls (dem_whole), of scenes (the stored runs of programs).
+//! Not here: tests of what is private to a crate (its own), of whole calls (the stored run of dem_refusals), of scenes (the stored runs of programs).
 #![tactic(auto)]
 
+#[cfg(test)]
+mod checks;
 #[cfg(test)]
 mod command_lines;
 #[cfg(test)]

@@ -4,6 +4,6 @@ use Rattle.dem_core.specs.declared.parcel.Parcel.{Parcel as Room}
 use Rattle.dem_core.proofs.TurningFacts.{new-view}
 use Rattle.dem_core.proofs.world.World.new.Goals as goal
 
-pub returns : goal.returns
-returns g c =
-    (new-view c.args.shapes.now c.args.grid.now c.in_ok-course.course c.in_ok-parcel.parcel (c.in_ok-course.ensures.0 ∙ ap (λ d. record { scene = c.args.shapes.now; drift = d; course = first_course c.args.shapes.now }) c.drift.ensures) (ap (λ (r : Room). r.place) c.in_ok-parcel.ensures), c.in_ok-course.ensures.1, c.in_ok-course.ensures.2)
+pub returns-in-Ok : goal.returns-in-Ok
+returns-in-Ok g c =
+    (new-view c.args.shapes.now c.args.grid.now c.in-Ok.course c.in_ok-parcel.parcel (c.in-Ok.ensures.0 ∙ ap (λ d. record { scene = c.args.shapes.now; drift = d; course = first_course c.args.shapes.now }) c.drift.ensures) (ap (λ (r : Room). r.place) c.in_ok-parcel.ensures), c.in-Ok.ensures.1, c.in-Ok.ensures.2)

@@ -1,4 +1,4 @@
--- One clump's step: velocity first, then position with the new velocity; spin, then the quaternion; and the limits.
+-- One clump's step: velocity first, then position with the new velocity; spin, then the quaternion; motions that are prescribed; and the limits.
 use Rattle.std.specs.Prelude.{ℕ, ℤ, pos, ◌+ℤ◌, ◌-ℤ◌, ◌*ℤ◌, Bool, not, ◌||◌, List, Result, Ok, Err, nat_lt, unsigned_abs, slice_get, if◌then◌else◌}
 use Rattle.std.specs.List.{list_any}
 use Rattle.std.specs.Option.{option_map_or}
@@ -10,11 +10,13 @@ use Rattle.dem_num.specs.Rotations.{matrix_of, turned_of, turned_back_by, turn_s
 use Rattle.dem_model.specs.SceneValue.{SceneValue}
 use Rattle.dem_model.specs.Position.{in_box}
 use Rattle.dem_model.specs.Spheres.{balls_of, center_of}
+use Rattle.dem_model.specs.Families.{motion_for, velocity_by, spin_by}
 use Rattle.dem_model.specs.declared.law.Load.{Load}
 use Rattle.dem_model.specs.declared.limits.TheConstants.{MAX_TORQUE}
 use Rattle.dem_model.specs.declared.shape.Ball.{Ball}
 use Rattle.dem_model.specs.declared.shape.Template.{Template}
 use Rattle.dem_model.specs.declared.state.Body.{Body}
+use Rattle.dem_model.specs.declared.state.Clump.{Clump}
 use Rattle.dem_model.specs.declared.state.EndKind.{EndKind}
 use Rattle.dem_model.specs.declared.state.EndKind.TheVariants.{Speed, Spin, Domain, Swing}
 
@@ -76,9 +78,9 @@ limited s balls b v w =
     else (if swings s.spin balls b (body_with b v w) then Err Swing
     else Ok (body_with b v w))))
 
--- the step of a clump of a template under a load, or the first limit that it passes
-unfoldable pub advance_of : SceneValue → ℕ → Body → Load → Result Body EndKind
-advance_of s t b load =
-    limited s (balls_of s.templates t) b
-    (velocity_after s.gravity (mass_of s.templates t) b.v load.force)
-    (spin_after (moments_of s.templates t) b.w (body_torque_of b load.torque))
+-- the step of a clump under a load, or the first limit that it passes; the motion of its family gives the new velocity and the new spin, where it has one
+unfoldable pub advance_of : SceneValue → Clump → Body → Load → Result Body EndKind
+advance_of s c b load =
+    limited s (balls_of s.templates c.t) b
+    (velocity_by (motion_for s.motions c.family) (velocity_after s.gravity (mass_of s.templates c.t) b.v load.force))
+    (spin_by (motion_for s.motions c.family) (spin_after (moments_of s.templates c.t) b.w (body_torque_of b load.torque)))

@@ -1,4 +1,4 @@
--- The contact law: elastic and damped along the normal, elastic, damped and bounded by friction across it.
+-- The contact law: elastic and damped along the normal, elastic, damped and bounded by friction across it, and a torque against rolling.
 use Rattle.std.specs.Prelude.{ℕ, ℤ, pos, ◌-◌, ◌*◌, ◌/◌, ◌^◌, ◌-ℤ◌, ◌*ℤ◌, ◌==◌, nat_le, unsigned_abs, if◌then◌else◌}
 use Rattle.std.specs.Int.{int_max, int_min}
 use Rattle.dem_num.specs.declared.vector.Vec3.{Vec3}
@@ -114,7 +114,7 @@ unfoldable pub torque_b_of : Side → Vec3 → ℕ → Wide3 → Wide3 → Wide3
 torque_b_of b n delta force friction =
     difference_of (opposed (cross_of (widened b.lever) force)) (friction_torque_of (depth_of b.r delta) n friction)
 
--- the force and the torques of a contact whose normal force, trial and displacement are known
+-- the force and the torques of a contact whose normal force, trial and displacement are known, without rolling resistance
 unfoldable pub push_with : Law → Side → Side → Vec3 → ℕ → ℕ → Vec3 → Wide3 → Push
 push_with law a b n delta normal_force h trial =
     let bound = friction_bound_of law.mu normal_force in
@@ -127,6 +127,33 @@ push_with law a b n delta normal_force h trial =
       h = held_after law.kt bound trial h;
     }
 
+-- the greatest torque against rolling: a part of the normal force, times the effective radius
+unfoldable pub rolling_bound_of : ℕ → ℕ → ℕ → ℕ
+rolling_bound_of mr normal_force radius = (mr * normal_force) / 2 ^ 16 * radius
+
+-- a torque of the bound's size against a rolling; none where nothing rolls
+unfoldable pub resistance_of : ℕ → Wide3 → Wide3
+resistance_of bound roll =
+    let size = root_of (norm2_of roll) in
+    if size == 0 then no_vector else opposed (quotients (scaled (pos bound) roll) (pos size))
+
+-- the rolling of two sides: the spin of the first against the second, less its part along the normal
+unfoldable pub roll_of : Side → Side → Vec3 → Wide3
+roll_of a b n = across_normal n (difference_of (widened a.spin) (widened b.spin))
+
+-- the torque on the first against the rolling
+unfoldable pub rolling_of : Law → Side → Side → Vec3 → ℕ → Wide3
+rolling_of law a b n normal_force = resistance_of (rolling_bound_of law.mr normal_force (radius_between a b)) (roll_of a b n)
+
+-- a push with a torque against rolling, which the second feels the opposite way; a wall feels no torque
+unfoldable pub with_rolling : Side → Wide3 → Push → Push
+with_rolling b rolling p = record {
+  force = p.force;
+  torque_a = sum_of p.torque_a rolling;
+  torque_b = if b.wall then no_vector else difference_of p.torque_b rolling;
+  h = p.h;
+}
+
 -- what a contact does, from the overlap as a number without sign
 unfoldable pub pushed_of : Law → Side → Side → Vec3 → ℕ → Vec3 → Push
 pushed_of law a b n delta h0 =
@@ -135,10 +162,8 @@ pushed_of law a b n delta h0 =
     let u = relative_velocity_of a b n delta in
     let slip = across_normal n u in
     let h = carried_of n slip h0 in
-    push_with law a b n delta
-    (normal_force_of law c delta mass (along_normal n u))
-    h
-    (trial_of law c mass h slip)
+    let normal_force = normal_force_of law c delta mass (along_normal n u) in
+    with_rolling b (rolling_of law a b n normal_force) (push_with law a b n delta normal_force h (trial_of law c mass h slip))
 
 -- what a contact does
 unfoldable pub contact_of : Law → Side → Side → Touch → Vec3 → Push

@@ -2,7 +2,9 @@ pub mod SceneValue
 pub mod Position
 pub mod Spheres
 pub mod Sound
+pub mod Families
 pub mod Pairs
+pub mod Facet
 pub mod Touch
 pub mod Centers
 pub mod Mixing

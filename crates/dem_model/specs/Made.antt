@@ -28,7 +28,7 @@ word_of words k = (mix_u64 (state_after words k)).0
 
 -- the one material
 abbrev pub made_material : Material
-made_material = record { kn = 45000000; kt = 50000000; bn = 26214; bt = 26214; mu = 32768 }
+made_material = record { kn = 45000000; kt = 50000000; bn = 26214; bt = 26214; mu = 32768; mr = 0 }
 
 -- a sphere, whose radius takes one word
 unfoldable pub made_ball : ℕ → Ball
@@ -77,6 +77,7 @@ made_velocity words = record { x = speed_from (word_of words 0); y = speed_from 
 unfoldable pub made_clump : (words edge i : ℕ) → Clump
 made_clump words edge i = record {
   t = word_of words 0 % 4;
+  family = 0;
   body = record still_body { p = made_place (state_after words 1) edge i; v = made_velocity (state_after words 4) };
 }
 
@@ -105,4 +106,6 @@ made_of seed count = let voxels = 32 * (edge_of count + 2) in record {
   templates = made_templates seed;
   walls = made_floor ∷ [];
   clumps = made_clumps (state_after seed 4) (edge_of count) count;
+  motions = [];
+  off = [];
 }

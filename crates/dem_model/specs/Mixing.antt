@@ -1,4 +1,4 @@
--- Two materials and two sides together: stiffness, damping, friction, radius and mass.
+-- Two materials and two sides together: stiffness, damping, friction, rolling resistance, radius and mass.
 use Rattle.std.specs.Prelude.{ℕ, ◌+◌, ◌*◌, ◌/◌, ◌==◌, max, min, if◌then◌else◌}
 use Rattle.dem_model.specs.declared.law.Law.{Law}
 use Rattle.dem_model.specs.declared.law.Side.{Side}
@@ -8,7 +8,7 @@ use Rattle.dem_model.specs.declared.shape.Material.{Material}
 unfoldable pub in_a_row : ℕ → ℕ → ℕ
 in_a_row a b = if a + b == 0 then 0 else (a * b) / (a + b)
 
--- the law between two materials: springs in a row, the greater damping, the lesser friction
+-- the law between two materials: springs in a row, the greater damping, the lesser friction and rolling resistance
 unfoldable pub mixed_of : Material → Material → Law
 mixed_of a b = record {
   kn = max 1 (in_a_row a.kn b.kn);
@@ -16,6 +16,7 @@ mixed_of a b = record {
   bn = max a.bn b.bn;
   bt = max a.bt b.bt;
   mu = min a.mu b.mu;
+  mr = min a.mr b.mr;
 }
 
 -- the effective radius of a contact: that of the sphere alone at a wall

@@ -1,10 +1,11 @@
--- The pairs that may touch: a sphere, and a later sphere of another clump or a wall.
+-- The pairs that may touch: a sphere, and a wall or a later sphere of another clump whose family isn't off with its own.
 use Rattle.std.specs.Prelude.{ℕ, pos, ◌+◌, ◌-◌, ◌==◌, Bool, true, not, ◌&&◌, List, length, map, filter, nat_lt, slice_index_or, if◌then◌else◌}
 use Rattle.std.specs.List.{flat_map, range_with_len}
 use Rattle.std.specs.Ordering.{nat_cmp, ordering_then}
 use Rattle.std.specs.declared.cmp.Ordering.{Ordering}
 use Rattle.dem_model.specs.SceneValue.{SceneValue}
 use Rattle.dem_model.specs.Spheres.{Sphere, spheres_of}
+use Rattle.dem_model.specs.Families.{family_of, is_off}
 use Rattle.dem_model.specs.declared.shape.Form.TheVariants.{Plane}
 use Rattle.dem_model.specs.declared.shape.Wall.{Wall}
 use Rattle.dem_model.specs.declared.state.Pair.{Pair}
@@ -41,9 +42,13 @@ pair_of a b = record { a = a; b = b }
 abbrev pub pair_cmp : Pair → Pair → Ordering
 pair_cmp p q = ordering_then (nat_cmp p.a q.a) (nat_cmp p.b q.b)
 
--- whether the second is later, and a wall or a sphere of another clump
+-- whether the spheres of two clumps may touch: the clumps differ, and their families aren't off with each other
+unfoldable pub clumps_meet : SceneValue → ℕ → ℕ → Bool
+clumps_meet s c d = not (c == d) && not (is_off s.off (family_of s c) (family_of s d))
+
+-- whether the second is later, and a wall or a sphere of a clump that the first's may meet
 unfoldable pub apart : SceneValue → Pair → Bool
-apart s p = nat_lt p.a p.b && (if nat_lt p.b (sphere_count s) then not ((sphere_at s p.a).clump == (sphere_at s p.b).clump) else true)
+apart s p = nat_lt p.a p.b && (if nat_lt p.b (sphere_count s) then clumps_meet s (sphere_at s p.a).clump (sphere_at s p.b).clump else true)
 
 -- the pairs of one sphere with what is numbered below b
 unfoldable pub row_below : SceneValue → ℕ → ℕ → List Pair

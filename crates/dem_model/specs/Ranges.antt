@@ -17,6 +17,7 @@ pub record IsLaw (law : Law) : Type 0 where
   pub bn : law.bn ≤ MAX_RATIO
   pub bt : law.bt ≤ MAX_RATIO
   pub mu : law.mu ≤ MAX_RATIO
+  pub mr : law.mr ≤ MAX_RATIO
 
 -- a side is within its ranges, a wall's zeros among them
 pub record IsBounded (s : Side) : Type 0 where

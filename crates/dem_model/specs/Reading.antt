@@ -1,5 +1,5 @@
 -- Reading a scene text step by step: each step gives its value, or the first fault with its place.
-use Rattle.std.specs.Prelude.{ℕ, suc, ℤ, pos, negsuc, ◌+◌, Bool, true, false, ◌&&◌, nat_lt, nat_le, unsigned_abs, List, [], ◌∷◌, Option, Some, None, option_and_then, Result, Ok, Err, ok_or, ⊤}
+use Rattle.std.specs.Prelude.{ℕ, suc, ℤ, pos, negsuc, ◌+◌, Bool, true, false, ◌&&◌, ◌||◌, nat_lt, nat_le, unsigned_abs, List, [], ◌∷◌, Option, Some, None, option_and_then, Result, Ok, Err, ok_or, ⊤}
 use Rattle.std.specs.List.{list_any, list_all}
 use Rattle.std.specs.Str.{bytes_eq}
 use Rattle.serde_json.specs.Data.{Data, Items, no_items, item, Members, no_members, member}
@@ -8,7 +8,7 @@ use Rattle.dem_model.specs.declared.fault.Name.{Name}
 use Rattle.dem_model.specs.declared.fault.Spot.{Spot}
 use Rattle.dem_model.specs.declared.fault.SceneFault.{SceneFault}
 use Rattle.dem_model.specs.declared.fault.SceneFault.TheVariants.{Field, Unknown, Range, Index, Count}
-use Rattle.dem_model.specs.ReadingNames.{names_of}
+use Rattle.dem_model.specs.ReadingNames.{names_of, later_names_of}
 
 infixl 10 ◌>>=◌
 -- the next step of a reading, made where the one before has no fault
@@ -59,6 +59,19 @@ known_object at (Some ms) = unless (Unknown at) (list_all (is_among (names_of at
 -- an object, with no name that its table doesn't have
 unfoldable pub check_object : Spot → Data → Result ⊤ SceneFault
 check_object at d = known_object at (as_object d)
+
+-- whether the object at a place may have a name: in both versions, or in version 2 alone
+unfoldable pub is_known_in : Bool → Name → List ℕ → Bool
+is_known_in later at name = is_among (names_of at) name || (later && is_among (later_names_of at) name)
+
+-- an object whose names are all among those that its place has in its version
+abbrev pub known_members : Bool → Spot → Option Members → Result ⊤ SceneFault
+known_members later at None = Err (Field at)
+known_members later at (Some ms) = unless (Unknown at) (list_all (is_known_in later at.name) (names_in ms))
+
+-- an object, with no name that its table doesn't have in its version
+unfoldable pub check_object_in : Bool → Spot → Data → Result ⊤ SceneFault
+check_object_in later at d = known_members later at (as_object d)
 
 -- ---- whole numbers
 

@@ -1,12 +1,12 @@
 -- Reading each kind of object of a scene text: the object, or its first fault with its place.
-use Rattle.std.specs.Prelude.{ℕ, ◌+◌, ◌-◌, max, fold, nat_le, if◌then◌else◌, List, [], ◌∷◌, length, codes, Option, Some, None, Result, Ok, Err, ⊤}
+use Rattle.std.specs.Prelude.{ℕ, unsigned_abs, ◌+◌, ◌-◌, max, fold, nat_le, if◌then◌else◌, List, [], ◌∷◌, length, codes, ℤ, Bool, ◌&&◌, Option, Some, None, option_and_then, Result, Ok, Err, ok_or, ⊤}
 use Rattle.std.specs.Str.{bytes_eq}
 use Rattle.serde_json.specs.Data.{Data, Items, no_items, item}
-use Rattle.serde_json.specs.Find.{get, as_str}
+use Rattle.serde_json.specs.Find.{get, as_array, as_str}
 use Rattle.dem_model.specs.declared.fault.Spot.{Spot}
 use Rattle.dem_model.specs.declared.fault.Name.TheVariants as names
 use Rattle.dem_model.specs.declared.fault.SceneFault.{SceneFault}
-use Rattle.dem_model.specs.declared.fault.SceneFault.TheVariants.{Field, Count}
+use Rattle.dem_model.specs.declared.fault.SceneFault.TheVariants.{Field, Range, Count}
 use Rattle.dem_model.specs.declared.shape.Material.{Material}
 use Rattle.dem_model.specs.declared.shape.Ball.{Ball}
 use Rattle.dem_model.specs.declared.shape.Template.{Template}
@@ -16,9 +16,11 @@ use Rattle.dem_model.specs.declared.shape.Form.{Form}
 use Rattle.dem_model.specs.declared.shape.Form.TheVariants.{Plane, Cylinder}
 use Rattle.dem_model.specs.declared.shape.Wall.{Wall}
 use Rattle.dem_model.specs.declared.state.Clump.{Clump}
-use Rattle.dem_model.specs.declared.limits.TheConstants.{MAX_STIFFNESS, MAX_RATIO, MAX_MASS, MAX_MOMENT, MAX_BALLS, MAX_OFFSET, MAX_RADIUS, MAX_POINT, MAX_CYLINDER, MAX_SPEED, MAX_SPIN, MAX_SPHERES}
+use Rattle.dem_model.specs.declared.family.Motion.{Motion}
+use Rattle.dem_model.specs.declared.family.Off.{Off}
+use Rattle.dem_model.specs.declared.limits.TheConstants.{MAX_STIFFNESS, MAX_RATIO, MAX_MASS, MAX_MOMENT, MAX_BALLS, MAX_OFFSET, MAX_RADIUS, MAX_POINT, MAX_CYLINDER, MAX_SPEED, MAX_SPIN, MAX_SPHERES, MAX_FAMILY}
 use Rattle.dem_model.specs.Spheres.{balls_of}
-use Rattle.dem_model.specs.Reading.{◌>>=◌, spot, unless, required, from_to, at_most, check_object, number_at, number_or, index_at, list_at}
+use Rattle.dem_model.specs.Reading.{◌>>=◌, spot, unless, required, if_so, whole, from_to, at_most, check_object, check_object_in, number_at, number_or, index_at, list_at}
 use Rattle.dem_model.specs.ReadingVectors.{vector_at, vector_or, direction_at, quaternion_or}
 
 -- ---- materials
@@ -32,7 +34,8 @@ material_of i d = do
   bn ← number_or (codes "bn") 0 MAX_RATIO (spot names.MaterialsBn i 0) d
   bt ← number_or (codes "bt") 0 MAX_RATIO (spot names.MaterialsBt i 0) d
   mu ← number_or (codes "mu") 0 MAX_RATIO (spot names.MaterialsMu i 0) d
-  Ok (record { kn = kn; kt = kt; bn = bn; bt = bt; mu = mu })
+  mr ← number_or (codes "mr") 0 MAX_RATIO (spot names.MaterialsMr i 0) d
+  Ok (record { kn = kn; kt = kt; bn = bn; bt = bt; mu = mu; mr = mr })
 
 -- ---- templates
 
@@ -108,6 +111,49 @@ wall_of materials widest i d = do
   mat ← index_at (codes "mat") materials (spot names.WallsMat i 0) d
   Ok (record { form = form; mat = mat })
 
+-- ---- families
+
+-- a motion, of a family from a least one on
+unfoldable pub motion_of : ℕ → ℕ → Data → Result Motion SceneFault
+motion_of least i d = do
+  _ ← check_object (spot names.Families i 0) d
+  id ← number_at (codes "id") least MAX_FAMILY (spot names.FamiliesId i 0) d
+  v ← vector_at (codes "v") (at_most MAX_SPEED) (spot names.FamiliesV i 0) d
+  w ← vector_at (codes "w") (at_most MAX_SPIN) (spot names.FamiliesW i 0) d
+  Ok (record { id = id; v = v; w = w })
+
+-- the motions from number i on, of families from a least one on, in ascending order
+unfoldable pub motions_from : ℕ → ℕ → Items → Result (List Motion) SceneFault
+motions_from least i no_items = Ok []
+motions_from least i (item d ds) = do
+  m ← motion_of least i d
+  ms ← motions_from (m.id + 1) (i + 1) ds
+  Ok (m ∷ ms)
+
+-- two numbers, where each is one
+abbrev pub pair_of_two : Option ℤ → Option ℤ → Option (ℤ × ℤ)
+pair_of_two (Some f) (Some g) = Some (f, g)
+pair_of_two _ _ = None
+
+-- the two numbers that a list is: exactly two whole numbers
+abbrev pub two_of : Items → Option (ℤ × ℤ)
+two_of (item f (item g no_items)) = pair_of_two (whole f) (whole g)
+two_of _ = None
+
+-- whether both numbers are those of families
+abbrev pub are_families : ℤ × ℤ → Bool
+are_families x = from_to 0 MAX_FAMILY x.0 && from_to 0 MAX_FAMILY x.1
+
+-- two numbers in a list, whatever their size
+unfoldable pub two_at : Spot → Data → Result (ℤ × ℤ) SceneFault
+two_at at d = ok_or (option_and_then two_of (as_array d)) (Field at)
+
+-- two families that are off
+unfoldable pub off_of : ℕ → Data → Result Off SceneFault
+off_of i d = do
+  x ← two_at (spot names.Off i 0) d
+  if_so (Range (spot names.Off i 0)) (are_families x) (record { f = unsigned_abs x.0; g = unsigned_abs x.1 })
+
 -- ---- clumps
 
 -- the number of spheres of a template
@@ -118,22 +164,23 @@ ball_count templates t = length (balls_of templates t)
 unfoldable pub check_total : ℕ → Spot → Result ⊤ SceneFault
 check_total spheres at = unless (Count at) (nat_le spheres MAX_SPHERES)
 
--- a clump, after so many spheres of the clumps before it
-unfoldable pub clump_of : List Template → ℕ → ℕ → Data → Result Clump SceneFault
-clump_of templates before i d = do
-  _ ← check_object (spot names.Clumps i 0) d
+-- a clump, after so many spheres of the clumps before it; version 2 may name its family
+unfoldable pub clump_of : Bool → List Template → ℕ → ℕ → Data → Result Clump SceneFault
+clump_of later templates before i d = do
+  _ ← check_object_in later (spot names.Clumps i 0) d
   t ← index_at (codes "t") (length templates) (spot names.ClumpsT i 0) d
+  family ← number_or (codes "family") 0 MAX_FAMILY (spot names.ClumpsFamily i 0) d
   p ← vector_at (codes "p") (from_to 0 (MAX_POINT - 1)) (spot names.ClumpsP i 0) d
   v ← vector_or (codes "v") (at_most MAX_SPEED) (spot names.ClumpsV i 0) d
   q ← quaternion_or (codes "q") (spot names.ClumpsQ i 0) d
   w ← vector_or (codes "w") (at_most MAX_SPIN) (spot names.ClumpsW i 0) d
   _ ← check_total (before + ball_count templates t) (spot names.ClumpsTotal i 0)
-  Ok (record { t = t; body = record { p = p; q = q; v = v; w = w } })
+  Ok (record { t = t; family = family; body = record { p = p; q = q; v = v; w = w } })
 
 -- the clumps from number i on, after so many spheres of the clumps before them
-unfoldable pub clumps_from : List Template → ℕ → ℕ → Items → Result (List Clump) SceneFault
-clumps_from templates before i no_items = Ok []
-clumps_from templates before i (item d ds) = do
-  c ← clump_of templates before i d
-  cs ← clumps_from templates (before + ball_count templates c.t) (i + 1) ds
+unfoldable pub clumps_from : Bool → List Template → ℕ → ℕ → Items → Result (List Clump) SceneFault
+clumps_from later templates before i no_items = Ok []
+clumps_from later templates before i (item d ds) = do
+  c ← clump_of later templates before i d
+  cs ← clumps_from later templates (before + ball_count templates c.t) (i + 1) ds
   Ok (c ∷ cs)

@@ -3,13 +3,13 @@ use Rattle.std.specs.Prelude.{ℕ, List, [], ◌∷◌, codes}
 use Rattle.dem_model.specs.declared.fault.Name.{Name}
 use Rattle.dem_model.specs.declared.fault.Name.TheVariants as names
 
--- the names of the scene object
+-- the names of the scene object in both versions
 abbrev pub scene_names : List (List ℕ)
 scene_names = codes "version" ∷ codes "box" ∷ codes "steps" ∷ codes "every" ∷ codes "speed" ∷ codes "spin" ∷ codes "gravity" ∷ codes "materials" ∷ codes "templates" ∷ codes "walls" ∷ codes "clumps" ∷ []
 
 -- the names of a material
 abbrev pub material_names : List (List ℕ)
-material_names = codes "kn" ∷ codes "kt" ∷ codes "bn" ∷ codes "bt" ∷ codes "mu" ∷ []
+material_names = codes "kn" ∷ codes "kt" ∷ codes "bn" ∷ codes "bt" ∷ codes "mu" ∷ codes "mr" ∷ []
 
 -- the names of a template
 abbrev pub template_names : List (List ℕ)
@@ -31,11 +31,15 @@ plane_names = codes "at" ∷ codes "dir" ∷ []
 abbrev pub cylinder_names : List (List ℕ)
 cylinder_names = codes "axis" ∷ codes "at" ∷ codes "r" ∷ []
 
--- the names of a clump
+-- the names of a motion
+abbrev pub motion_names : List (List ℕ)
+motion_names = codes "id" ∷ codes "v" ∷ codes "w" ∷ []
+
+-- the names of a clump in both versions
 abbrev pub clump_names : List (List ℕ)
 clump_names = codes "t" ∷ codes "p" ∷ codes "v" ∷ codes "q" ∷ codes "w" ∷ []
 
--- the names that the object at a place may have; a place that is no object has none
+-- the names that the object at a place may have in both versions; a place that is no object has none
 unfoldable pub names_of : Name → List (List ℕ)
 names_of names.Scene = scene_names
 names_of names.Materials = material_names
@@ -44,6 +48,7 @@ names_of names.TemplatesSpheres = sphere_names
 names_of names.Walls = wall_names
 names_of names.WallsPlane = plane_names
 names_of names.WallsCylinder = cylinder_names
+names_of names.Families = motion_names
 names_of names.Clumps = clump_names
 names_of names.Version = []
 names_of names.Box = []
@@ -57,6 +62,7 @@ names_of names.MaterialsKt = []
 names_of names.MaterialsBn = []
 names_of names.MaterialsBt = []
 names_of names.MaterialsMu = []
+names_of names.MaterialsMr = []
 names_of names.TemplatesMass = []
 names_of names.TemplatesMoments = []
 names_of names.TemplatesSpheresAt = []
@@ -69,12 +75,23 @@ names_of names.WallsCylinderAxis = []
 names_of names.WallsCylinderAt = []
 names_of names.WallsCylinderR = []
 names_of names.WallsMat = []
+names_of names.FamiliesId = []
+names_of names.FamiliesV = []
+names_of names.FamiliesW = []
+names_of names.Off = []
 names_of names.ClumpsT = []
+names_of names.ClumpsFamily = []
 names_of names.ClumpsP = []
 names_of names.ClumpsV = []
 names_of names.ClumpsQ = []
 names_of names.ClumpsW = []
 names_of names.ClumpsTotal = []
+
+-- the names that the object at a place may have in version 2 alone
+unfoldable pub later_names_of : Name → List (List ℕ)
+later_names_of names.Scene = codes "families" ∷ codes "off" ∷ []
+later_names_of names.Clumps = codes "family" ∷ []
+later_names_of _ = []
 
 -- a name as the messages write it
 unfoldable pub name_text : Name → List ℕ
@@ -92,6 +109,7 @@ name_text names.MaterialsKt = codes "materials.kt"
 name_text names.MaterialsBn = codes "materials.bn"
 name_text names.MaterialsBt = codes "materials.bt"
 name_text names.MaterialsMu = codes "materials.mu"
+name_text names.MaterialsMr = codes "materials.mr"
 name_text names.Templates = codes "templates"
 name_text names.TemplatesMass = codes "templates.mass"
 name_text names.TemplatesMoments = codes "templates.moments"
@@ -109,8 +127,14 @@ name_text names.WallsCylinderAxis = codes "walls.cylinder.axis"
 name_text names.WallsCylinderAt = codes "walls.cylinder.at"
 name_text names.WallsCylinderR = codes "walls.cylinder.r"
 name_text names.WallsMat = codes "walls.mat"
+name_text names.Families = codes "families"
+name_text names.FamiliesId = codes "families.id"
+name_text names.FamiliesV = codes "families.v"
+name_text names.FamiliesW = codes "families.w"
+name_text names.Off = codes "off"
 name_text names.Clumps = codes "clumps"
 name_text names.ClumpsT = codes "clumps.t"
+name_text names.ClumpsFamily = codes "clumps.family"
 name_text names.ClumpsP = codes "clumps.p"
 name_text names.ClumpsV = codes "clumps.v"
 name_text names.ClumpsQ = codes "clumps.q"

@@ -1,5 +1,5 @@
 -- What each scene keeps: every range, index and count, no clump over a limit, none outside the box.
-use Rattle.std.specs.Prelude.{ℕ, ℤ, pos, ◌<◌, ◌≤◌, ◌≡◌, ◌≤ℤ◌, false, List, length, All, IsTrue}
+use Rattle.std.specs.Prelude.{ℕ, ℤ, pos, ◌+◌, ◌<◌, ◌≤◌, ◌≡◌, ◌≤ℤ◌, false, List, [], ◌∷◌, length, All, IsTrue}
 use Rattle.dem_num.specs.declared.vector.Vec3.{Vec3}
 use Rattle.dem_num.specs.Vectors.{widened, Within, is_zero}
 use Rattle.dem_num.specs.Rotations.{quat_norm2_of}
@@ -14,7 +14,9 @@ use Rattle.dem_model.specs.declared.shape.Form.TheVariants.{Plane, Cylinder}
 use Rattle.dem_model.specs.declared.shape.Wall.{Wall}
 use Rattle.dem_model.specs.declared.state.Body.{Body}
 use Rattle.dem_model.specs.declared.state.Clump.{Clump}
-use Rattle.dem_model.specs.declared.limits.TheConstants.{MAX_VOXELS, MAX_STEPS, MAX_SPEED, MAX_SPIN, MAX_GRAVITY, MAX_MATERIALS, MAX_STIFFNESS, MAX_RATIO, MAX_TEMPLATES, MAX_MASS, MAX_MOMENT, MAX_BALLS, MAX_OFFSET, MAX_RADIUS, MAX_WALLS, MAX_POINT, MAX_DIRECTION, MAX_CYLINDER, MAX_CLUMPS, MAX_SPHERES, MIN_NORM2, MAX_NORM2}
+use Rattle.dem_model.specs.declared.family.Motion.{Motion}
+use Rattle.dem_model.specs.declared.family.Off.{Off}
+use Rattle.dem_model.specs.declared.limits.TheConstants.{MAX_VOXELS, MAX_STEPS, MAX_SPEED, MAX_SPIN, MAX_GRAVITY, MAX_MATERIALS, MAX_STIFFNESS, MAX_RATIO, MAX_TEMPLATES, MAX_MASS, MAX_MOMENT, MAX_BALLS, MAX_OFFSET, MAX_RADIUS, MAX_WALLS, MAX_POINT, MAX_DIRECTION, MAX_CYLINDER, MAX_CLUMPS, MAX_SPHERES, MIN_NORM2, MAX_NORM2, MAX_FAMILY, MAX_MOTIONS, MAX_OFF}
 
 -- the number is from low to high
 pub record IsFrom (low high n : ℕ) : Type 0 where
@@ -32,13 +34,14 @@ pub record EachBetween (low high : ℤ) (v : Vec3) : Type 0 where
   pub y : IsBetween low high v.y
   pub z : IsBetween low high v.z
 
--- stiffness, damping and friction are within their ranges
+-- stiffness, damping, friction and rolling resistance are within their ranges
 pub record IsMaterial (m : Material) : Type 0 where
   pub kn : IsFrom 1 MAX_STIFFNESS m.kn
   pub kt : m.kt ≤ MAX_STIFFNESS
   pub bn : m.bn ≤ MAX_RATIO
   pub bt : m.bt ≤ MAX_RATIO
   pub mu : m.mu ≤ MAX_RATIO
+  pub mr : m.mr ≤ MAX_RATIO
 
 -- a sphere is within its ranges, and its material is there
 pub record IsBall (materials : ℕ) (b : Ball) : Type 0 where
@@ -75,10 +78,27 @@ pub record IsBodyOf (s : SceneValue) (c : Clump) (b : Body) : Type 0 where
   pub body : IsBody s b
   pub centers : All (λ (x : Ball). IsTrue (in_box s (center_of b x))) (balls_of s.templates c.t)
 
--- a clump's template is there, and its body is sound for it
+-- a clump's template is there, its family is one of the sixteen, and its body is sound for it
 pub record IsClump (s : SceneValue) (c : Clump) : Type 0 where
   pub t : c.t < length s.templates
+  pub family : c.family ≤ MAX_FAMILY
   pub body : IsBodyOf s c c.body
+
+-- a motion is one of a family, with speeds within the ranges of a scene text; the scene's own limits may be lower
+pub record IsMotion (m : Motion) : Type 0 where
+  pub id : m.id ≤ MAX_FAMILY
+  pub v : Within (widened m.v) MAX_SPEED
+  pub w : Within (widened m.w) MAX_SPIN
+
+-- the families of the motions ascend, from a least one on
+abbrev pub AreAscending : ℕ → List Motion → Type 0
+AreAscending least [] = Unit {0}
+AreAscending least (m ∷ ms) = (least ≤ m.id) × AreAscending (m.id + 1) ms
+
+-- both families are of the sixteen
+pub record IsOff (x : Off) : Type 0 where
+  pub f : x.f ≤ MAX_FAMILY
+  pub g : x.g ≤ MAX_FAMILY
 
 -- what each scene keeps
 pub record IsSound (s : SceneValue) : Type 0 where
@@ -99,3 +119,8 @@ pub record IsSound (s : SceneValue) : Type 0 where
   pub clump_count : IsFrom 1 MAX_CLUMPS (length s.clumps)
   pub clumps : All (IsClump s) s.clumps
   pub sphere_count : length (spheres_of s) ≤ MAX_SPHERES
+  pub motion_count : length s.motions ≤ MAX_MOTIONS
+  pub motions : All IsMotion s.motions
+  pub ascending : AreAscending 0 s.motions
+  pub off_count : length s.off ≤ MAX_OFF
+  pub off : All IsOff s.off

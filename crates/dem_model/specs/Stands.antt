@@ -13,9 +13,9 @@ use Rattle.dem_model.specs.declared.limits.TheConstants.{MAX_CLUMPS, MAX_SPHERES
 abbrev pub standing_body : Stand → Body
 standing_body x = record { p = x.p; q = still_body.q; v = still_body.v; w = still_body.w }
 
--- the clump of a stand
+-- the clump of a stand, in the first family
 abbrev pub standing : Stand → Clump
-standing x = record { t = x.t; body = standing_body x }
+standing x = record { t = x.t; family = 0; body = standing_body x }
 
 -- a scene with the clumps of these stands in the place of its own
 abbrev pub with_stands : SceneValue → List Stand → SceneValue

@@ -30,7 +30,7 @@ use Rattle.dem_model.specs.declared.state.State.{State}
 
 -- the material that stands where a number names none
 abbrev pub no_material : Material
-no_material = record { kn = 1; kt = 0; bn = 0; bt = 0; mu = 0 }
+no_material = record { kn = 1; kt = 0; bn = 0; bt = 0; mu = 0; mr = 0 }
 
 -- a material by its number
 unfoldable pub material_at : SceneValue → ℕ → Material
@@ -38,7 +38,7 @@ material_at s i = slice_index_or s.materials i no_material
 
 -- the clump that stands where a number names none
 abbrev pub no_clump : Clump
-no_clump = record { t = 0; body = body_at [] 0 }
+no_clump = record { t = 0; family = 0; body = body_at [] 0 }
 
 -- a clump by its number
 unfoldable pub clump_at : SceneValue → ℕ → Clump
@@ -164,7 +164,7 @@ first_load (w ∷ ws) = w
 unfoldable pub advanced_from : SceneValue → ℕ → ℕ → List Clump → List Body → List Load → Result (List Body) End
 advanced_from s step k [] bs ws = Ok []
 advanced_from s step k (c ∷ cs) bs ws =
-    joined (ended step k (advance_of s c.t (first_body bs) (first_load ws))) (advanced_from s step (k + 1) cs (drop 1 bs) (drop 1 ws))
+    joined (ended step k (advance_of s c (first_body bs) (first_load ws))) (advanced_from s step (k + 1) cs (drop 1 bs) (drop 1 ws))
 
 -- the pair and the new displacement of a meeting
 unfoldable pub held_in : Meeting → Held

@@ -19,6 +19,7 @@ pub enum Name {
     MaterialsBn,
     MaterialsBt,
     MaterialsMu,
+    MaterialsMr,
     Templates,
     TemplatesMass,
     TemplatesMoments,
@@ -36,8 +37,14 @@ pub enum Name {
     WallsCylinderAt,
     WallsCylinderR,
     WallsMat,
+    Families,
+    FamiliesId,
+    FamiliesV,
+    FamiliesW,
+    Off,
     Clumps,
     ClumpsT,
+    ClumpsFamily,
     ClumpsP,
     ClumpsV,
     ClumpsQ,
@@ -70,7 +77,7 @@ pub enum SceneFault {
     Index { which: Spot },
     /// A list is too short or too long.
     Count { which: Spot },
-    /// The version isn't 1.
+    /// The version is neither 1 nor 2.
     Version,
     /// A clump is faster or spins faster than the scene's limits.
     OverLimit { clump: u32 },

@@ -17,6 +17,7 @@ pub struct Law {
     pub bn: u32,
     pub bt: u32,
     pub mu: u32,
+    pub mr: u32,
 }
 
 /// One side of a contact: the clump's velocity `v`, its spin in world axes, the turned offset of the sphere (`lever`), the sphere's radius, the clump's mass; a wall is at rest and has none of these.

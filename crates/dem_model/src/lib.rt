@@ -6,6 +6,7 @@
 //! Takes memory: `List::push`. Not here: any computing (the crates above), numbers and rotations (dem_num).
 #![tactic(auto)]
 
+mod family;
 mod fault;
 mod law;
 mod limits;
@@ -16,14 +17,15 @@ mod shape;
 mod state;
 mod steps;
 
+pub use family::{Motion, Off};
 pub use fault::{Name, SceneFault, Spot};
 pub use law::{Law, Load, Push, Side, Touch};
 pub use limits::{
-    MAX_BALLS, MAX_CLUMPS, MAX_CYLINDER, MAX_DIRECTION, MAX_DISPLACEMENT, MAX_DRIFT, MAX_FORCE,
-    MAX_GRAVITY, MAX_MASS, MAX_MATERIALS, MAX_MOMENT, MAX_NORM2, MAX_OFFSET, MAX_OVERLAP,
-    MAX_POINT, MAX_RADIUS, MAX_RATIO, MAX_SPEED, MAX_SPHERES, MAX_SPIN, MAX_STEPS, MAX_STIFFNESS,
-    MAX_TEMPLATES, MAX_TEXT, MAX_TORQUE, MAX_VOXELS, MAX_WALLS, MIN_NORM2, UNIT, VELOCITY_UNIT,
-    VOXEL,
+    MAX_BALLS, MAX_CLUMPS, MAX_CYLINDER, MAX_DIRECTION, MAX_DISPLACEMENT, MAX_DRIFT, MAX_FAMILY,
+    MAX_FORCE, MAX_GRAVITY, MAX_MASS, MAX_MATERIALS, MAX_MOMENT, MAX_MOTIONS, MAX_NORM2, MAX_OFF,
+    MAX_OFFSET, MAX_OVERLAP, MAX_POINT, MAX_RADIUS, MAX_RATIO, MAX_SPEED, MAX_SPHERES, MAX_SPIN,
+    MAX_STEPS, MAX_STIFFNESS, MAX_TEMPLATES, MAX_TEXT, MAX_TORQUE, MAX_VOXELS, MAX_WALLS,
+    MIN_NORM2, UNIT, VELOCITY_UNIT, VOXEL,
 };
 pub use list::{List, OutOfMemory};
 pub use look::LookRow;

@@ -20,7 +20,7 @@ pub const MAX_GRAVITY: u64 = 1_048_576;
 pub const MAX_MATERIALS: usize = 64;
 /// Stiffness of a material, normal or tangential.
 pub const MAX_STIFFNESS: u32 = 268_435_456;
-/// Damping or friction of a material, times 2^16.
+/// Damping, friction or rolling resistance of a material, times 2^16.
 pub const MAX_RATIO: u32 = 262_144;
 /// Templates of a scene.
 pub const MAX_TEMPLATES: usize = 256;
@@ -46,6 +46,12 @@ pub const MAX_CYLINDER: u64 = 34_359_738_368;
 pub const MAX_CLUMPS: usize = 16_384;
 /// Spheres of all clumps together.
 pub const MAX_SPHERES: usize = 32_768;
+/// The number of a family.
+pub const MAX_FAMILY: u32 = 15;
+/// Motions of a scene.
+pub const MAX_MOTIONS: usize = 16;
+/// Pairs of families that are off.
+pub const MAX_OFF: usize = 136;
 /// The least squared length of a quaternion.
 pub const MIN_NORM2: u64 = 288_230_376_151_711_744;
 /// The greatest squared length of a quaternion.

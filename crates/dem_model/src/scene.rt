@@ -1,5 +1,6 @@
-//! A scene within its ranges: the box, the limits, the materials, the templates, the walls and the clumps.
+//! A scene within its ranges: the box, the limits, the materials, the templates, the walls, the clumps and their families.
 
+use crate::family::{Motion, Off};
 use crate::list::List;
 use crate::shape::{Material, Template, Wall};
 use crate::state::Clump;
@@ -29,6 +30,10 @@ pub struct Scene {
     pub templates: List<Template>,
     pub walls: List<Wall>,
     pub clumps: List<Clump>,
+    /// The motions of families, in ascending order of families.
+    pub motions: List<Motion>,
+    /// The families that are off with each other.
+    pub off: List<Off>,
 }
 
 impl Model for Scene {
@@ -51,6 +56,8 @@ impl Model for Scene {
       templates = a.templates;
       walls = a.walls;
       clumps = a.clumps;
+      motions = a.motions;
+      off = a.off;
     } };
 
     ghost invariant = { λ a. IsSound (record {
@@ -66,5 +73,7 @@ impl Model for Scene {
       templates = a.templates;
       walls = a.walls;
       clumps = a.clumps;
+      motions = a.motions;
+      off = a.off;
     }) };
 }

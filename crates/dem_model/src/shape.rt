@@ -3,7 +3,7 @@
 use crate::list::List;
 use dem_num::Vec3;
 
-/// A material: stiffness `kn` (normal) and `kt` (tangential), damping `bn` and `bt`, friction `mu`, the last three times 2^16.
+/// A material: stiffness `kn` (normal) and `kt` (tangential), damping `bn` and `bt`, friction `mu`, rolling resistance `mr`, the last four times 2^16.
 #[derive(Clone, Copy, PartialEq, Debug)]
 pub struct Material {
     pub kn: u32,
@@ -11,6 +11,7 @@ pub struct Material {
     pub bn: u32,
     pub bt: u32,
     pub mu: u32,
+    pub mr: u32,
 }
 
 /// A sphere of a template: its offset from the clump's position in u, its radius in u, the number of its material.

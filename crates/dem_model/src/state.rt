@@ -12,10 +12,11 @@ pub struct Body {
     pub w: Vec3,
 }
 
-/// A clump of a scene: the number of its template, and its body at the start.
+/// A clump of a scene: the number of its template, its family from 0 to 15, and its body at the start.
 #[derive(Clone, Copy, PartialEq, Debug)]
 pub struct Clump {
     pub t: u32,
+    pub family: u32,
     pub body: Body,
 }
 

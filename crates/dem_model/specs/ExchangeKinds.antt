@@ -1,7 +1,7 @@
 -- The eight kinds of step of an exchange: when each may be made, and what it changes.
-use Rattle.std.specs.Prelude.{ℕ, ◌+◌, ◌≡◌, ◌≢◌, Bool, true, false, List, [], ◌∷◌, length, Option, Some, None}
+use Rattle.std.specs.Prelude.{ℕ, ◌+◌, ◌≡◌, true, false, [], ◌∷◌, length, Some, None}
 use Rattle.dem_model.specs.World.{Snap}
-use Rattle.dem_model.specs.Exchange.{Terms, Cargo, Slot, Away, Empty, Full, Looks, DynamicsView, KinematicsView, Exchange, IsSoundFor, IsAnswer}
+use Rattle.dem_model.specs.Exchange.{Terms, Empty, Looks, DynamicsView, KinematicsView, Exchange}
 
 -- no look was made
 abbrev pub no_looks : Looks

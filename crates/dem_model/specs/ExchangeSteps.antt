@@ -1,7 +1,6 @@
 -- The atomic steps of an exchange, and which exchanges they reach.
-use Rattle.std.specs.Prelude.{ℕ, ◌≡◌, false, Option, Some, None}
-use Rattle.dem_model.specs.World.{Snap}
-use Rattle.dem_model.specs.Exchange.{Terms, Cargo, Away, Empty, Full, DynamicsView, KinematicsView, Exchange, IsSoundFor, IsAnswer}
+use Rattle.std.specs.Prelude.{◌≡◌, false, Some, None}
+use Rattle.dem_model.specs.Exchange.{Terms, Cargo, Away, Empty, Full, KinematicsView, Exchange, IsSoundFor, IsAnswer}
 use Rattle.dem_model.specs.ExchangeKinds.{HoldsHome, HoldsTaken, posting, taking, delivering, collecting, dynamics_looking, dynamics_checking, kinematics_looking, kinematics_checking, accompanied, beside, raising, beginning, opening_exchange}
 
 -- what a step is: its kind and, where it needs one, the parcel or the terms

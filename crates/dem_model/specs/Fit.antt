@@ -1,5 +1,5 @@
 -- States that a run may go on from.
-use Rattle.std.specs.Prelude.{ℕ, ◌≤◌, List, map, All}
+use Rattle.std.specs.Prelude.{◌≤◌, List, map, All}
 use Rattle.std.specs.List.Sorted.{IsStrictlySortedBy}
 use Rattle.dem_num.specs.Vectors.{widened, Within}
 use Rattle.dem_model.specs.SceneValue.{SceneValue}

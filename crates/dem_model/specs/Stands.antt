@@ -1,5 +1,5 @@
 -- Stands: clumps at rest, not turned. What they are in a scene, and which stands a scene can have.
-use Rattle.std.specs.Prelude.{ℕ, ◌≤◌, List, length, map, All}
+use Rattle.std.specs.Prelude.{◌≤◌, List, length, map, All}
 use Rattle.dem_model.specs.SceneValue.{SceneValue}
 use Rattle.dem_model.specs.Centers.{still_body}
 use Rattle.dem_model.specs.Spheres.{spheres_of}

@@ -1,3 +1,4 @@
+pub mod FamilyFacts
 pub mod FillFacts
 pub mod MatrixFacts
 pub mod PoseFacts

@@ -1,4 +1,4 @@
-//! Which pairs may touch at all.
+//! Which pairs may touch at all: a sphere, and a wall or a later sphere of a clump that the first's may meet.
 
 ghost use Rattle.std.specs.Prelude.{◌≡◌, ◌<◌, ◌↔◌};
 ghost use Rattle.std.specs.List.{Contains};
@@ -8,7 +8,7 @@ ghost use Rattle.dem_model.specs.Pairs.{sphere_count, apart, all_pairs};
 use crate::shapes::Shapes;
 use dem_model::Pair;
 
-/// Whether the second of a pair is later than the first, and a wall or a sphere of another clump.
+/// Whether the second of a pair is later than the first, and a wall or a sphere of another clump whose family isn't off with that of the first.
 #[tactic(auto, unfolding(dem_model::specs::Pairs::apart))]
 pub fn is_apart(shapes: &Shapes, pair: Pair) -> bool
     requires first { pair.a < sphere_count shapes.now }
@@ -16,7 +16,7 @@ pub fn is_apart(shapes: &Shapes, pair: Pair) -> bool
     ensures { result ≡ apart shapes.now pair }
 {
     if pair.b < shapes.spheres() {
-        shapes.clump_of(pair.a) != shapes.clump_of(pair.b)
+        shapes.clumps_meet(pair.a, pair.b)
     } else {
         true
     }

@@ -1,16 +1,21 @@
 //! The table of spheres of a scene, in the order of their numbers.
 
-ghost use Rattle.std.specs.Prelude.{◌≡◌, ◌<◌, ◌≤◌, ◌++◌, ◌^◌, length, map, OnOk, IfOk};
+ghost use Rattle.std.specs.Prelude.{◌≡◌, ◌<◌, ◌≤◌, ◌↔◌, ◌++◌, ◌^◌, true, length, map, OnOk, IfOk, IfSome};
+ghost use Rattle.std.specs.List.{Contains};
 ghost use Rattle.dem_num.specs.Vectors.{widened};
 ghost use Rattle.dem_num.specs.Rotations.{arm_of};
 ghost use Rattle.dem_model.specs.Motion.{per_step_of, IsSphere};
-ghost use Rattle.dem_model.specs.Pairs.{sphere_count, sphere_at};
-ghost use Rattle.dem_model.specs.Sound.{IsSound, IsBall};
+ghost use Rattle.dem_model.specs.Families.{family_of, motion_of};
+ghost use Rattle.dem_model.specs.Pairs.{sphere_count, sphere_at, limit_of, pair_of, clumps_meet, apart, all_pairs};
+ghost use Rattle.dem_model.specs.Sound.{IsSound, IsBall, IsMotion};
 ghost use Rattle.dem_model.specs.Spheres.{spheres_of_clump};
+ghost use Rattle.dem_shape.specs.Kin.{IsKin};
 ghost use Rattle.dem_shape.specs.Table.{table_entry_of};
 
+use crate::apart::is_apart;
 use crate::entry::Entry;
-use dem_model::{Ball, OutOfMemory, Scene};
+use crate::families::{Kin, has_bit, motion_for};
+use dem_model::{Ball, Motion, OutOfMemory, Pair, Scene};
 use std::alloc::Global;
 use std::marker::Model;
 
@@ -39,7 +44,8 @@ impl<'s> Shapes<'s> {
     {
         let mut entries = Vec::new(alloc);
         for k in 0..scene.clumps.len() {
-            add_clump(&mut entries, scene, k as u32, scene.clumps.get(k).t)?;
+            let kin = Kin::new(scene, k as u32);
+            add_clump(&mut entries, scene, k as u32, kin, scene.clumps.get(k).t)?;
         }
         Ok(Shapes { scene, entries })
     }
@@ -103,6 +109,49 @@ impl<'s> Shapes<'s> {
         self.entry(s).per_step
     }
 
+    /// The family of a clump, from 0 to 15.
+    pub fn family_of(&self, clump: u32) -> u32
+        requires { clump < length self.now.clumps }
+        ensures value { result ≡ family_of self.now clump }
+        ensures within { result ≤ 15 }
+    {
+        let scene = self.scene();
+        scene.clumps.get(clump as usize).family
+    }
+
+    /// The motion that is prescribed to a clump's family, if there is one.
+    pub fn motion(&self, clump: u32) -> Option<Motion>
+        requires { clump < length self.now.clumps }
+        ensures value { result ≡ motion_of self.now clump }
+        ensures within { IfSome result IsMotion }
+    {
+        let scene = self.scene();
+        motion_for(&scene.motions, self.family_of(clump))
+    }
+
+    /// Whether a sphere and a later sphere or wall may touch: a wall, or a sphere of another clump whose family isn't off with that of the first.
+    pub fn meets(&self, a: u32, b: u32) -> bool
+        requires first { a < sphere_count self.now }
+        requires later { a < b }
+        requires there { b < limit_of self.now }
+        ensures value { result ≡ apart self.now (pair_of a b) }
+        ensures listed { result ≡ true ↔ Contains (all_pairs self.now) (pair_of a b) }
+    {
+        is_apart(self, Pair { a, b })
+    }
+
+    /// Whether two spheres are of clumps that may meet: the clumps differ, and their families aren't off with each other.
+    pub fn clumps_meet(&self, a: u32, b: u32) -> bool
+        requires first { a < sphere_count self.now }
+        requires second { b < sphere_count self.now }
+        ensures { result ≡ clumps_meet self.now (sphere_at self.now a).clump (sphere_at self.now b).clump }
+    {
+        let _scene = self.scene();
+        let first = self.entry(a);
+        let second = self.entry(b);
+        first.clump != second.clump && !has_bit(first.offs, second.family)
+    }
+
     /// What the table keeps of a sphere.
     fn entry(&self, s: u32) -> Entry
         requires { s < sphere_count self.now }
@@ -114,12 +163,19 @@ impl<'s> Shapes<'s> {
 }
 
 /// Adds the spheres of one clump to the table.
-fn add_clump(entries: &mut Vec<Entry>, scene: &Scene, clump: u32, t: u32) -> Result<(), OutOfMemory>
-    requires { t < length scene.now.templates }
+fn add_clump(
+    entries: &mut Vec<Entry>,
+    scene: &Scene,
+    clump: u32,
+    kin: Kin,
+    t: u32,
+) -> Result<(), OutOfMemory>
+    requires template { t < length scene.now.templates }
+    requires kin { IsKin scene.now clump kin }
     ensures { OnOk result (entries.new.items ≡ entries.old.items ++ map (table_entry_of scene.now) (spheres_of_clump scene.now.templates clump t)) }
 {
     for ball in scene.templates.get(t as usize).balls.as_slice() {
-        if entries.push(Entry::new(scene, clump, *ball)).is_err() {
+        if entries.push(Entry::new(scene, clump, kin, *ball)).is_err() {
             return Err(OutOfMemory);
         }
     }

@@ -10,8 +10,8 @@ pub loop-k-init : goal.loop-k-init
 unfolding spheres_from
 loop-k-init c = c.new-entries.ensures.items
 
-pub add_clump-requires : goal.add_clump-requires
-add_clump-requires c =
+pub add_clump-requires-clause-template : goal.add_clump-requires-clause-template
+add_clump-requires-clause-template c =
     let at : slice_get c.args.scene.now.clumps c.loop-k.k ≡ Some c.get.result.now =
     ap (λ (s : SceneValue). slice_get s.clumps c.loop-k.k) (sym c.scene.view_is) ∙ c.get.ensures in
     clump_template c.args.scene.now c.loop-k.k c.get.result.now (subst IsSound c.scene.view_is c.scene.invariant) at

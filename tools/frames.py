@@ -95,20 +95,26 @@ def frames_of(rows):
         yield parts.frame(line[:1] in (b"f", b"e"), at)
 
 
-def read_frames(name, scene=None, wants_cut=True):
-    """The frames of a file or of standard input. The last one of a text that was cut comes, too, where it has all clumps, with a note; or not at all."""
-    rows = Rows(open_bytes(name), name or "standard input")
-    count = 0
-    for frame in frames_of(rows):
-        if scene and len(frame.bodies) != len(scene["clumps"]):
-            if frame.is_whole:
-                raise Fault("%s: frame %d has %d clumps, and the scene %d" % (rows.name, frame.step, len(frame.bodies), len(scene["clumps"])))
-            note("%s: frame %d was cut: it is left out" % (rows.name, frame.step))
-        elif frame.is_whole or wants_cut:
-            if not frame.is_whole:
-                note("%s: the text was cut in frame %d: pairs of it may be missing" % (rows.name, frame.step))
-            count += 1
-            yield frame
+def is_usable(rows, frame, scene):
+    """Whether a frame has all clumps of the scene; one that the text was cut in may have fewer, another one may not."""
+    if scene is None or len(frame.bodies) == len(scene["clumps"]):
+        if not frame.is_whole:
+            note("%s: the text was cut in frame %d: pairs of it may be missing" % (rows.name, frame.step))
+        return True
+    if frame.is_whole:
+        raise Fault("%s: frame %d has %d clumps, and the scene %d" % (rows.name, frame.step, len(frame.bodies), len(scene["clumps"])))
+    note("%s: frame %d was cut: it is left out" % (rows.name, frame.step))
+    return False
+
+
+def read_frames(name, scene=None):
+    """The frames of a file or of standard input. Of a text that was cut the last one comes, too, where it has all clumps, with a note."""
+    with open_bytes(name) as stream:
+        rows, count = Rows(stream, name or "standard input"), 0
+        for frame in frames_of(rows):
+            if is_usable(rows, frame, scene):
+                count += 1
+                yield frame
     if not count:
         raise Fault("%s: no whole frame" % rows.name)
 

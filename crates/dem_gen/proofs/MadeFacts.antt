@@ -1,6 +1,6 @@
 -- The made scene is sound: each range, each limit, and each sphere in the box.
-use Rattle.std.proofs.Common.{◌≡◌, ℕ, zero, suc, ◌+◌, ◌*◌, ◌/◌, ◌%◌, ◌≤◌, ◌<◌, ℤ, pos, negsuc, List, [], ◌∷◌, length, refl, sym, ap, ◌∙◌, ⊎_elim, subst, arith, rules, map, get_or, Option, None, Some, nat_lt, Bool, ◌&&◌}
-use Rattle.std.specs.Prelude.{All, IsTrue, ◌+ℤ◌, ◌-ℤ◌, unsigned_abs, slice_get}
+use Rattle.std.proofs.Common.{◌≡◌, ℕ, ◌+◌, ◌*◌, ◌/◌, ◌%◌, ◌≤◌, ◌<◌, ℤ, pos, negsuc, List, [], ◌∷◌, length, refl, sym, ap, ◌∙◌, ⊎_elim, subst, arith, rules, map, Option, Some, Bool, ◌&&◌}
+use Rattle.std.specs.Prelude.{All, IsTrue, ◌+ℤ◌, unsigned_abs}
 use Rattle.std.specs.List.{range_with_len}
 use Rattle.std.specs.Option.{option_map_or}
 use Rattle.std.proofs.lemmas.Bool.{lt-ltb, le-ltb, cases_lt}
@@ -11,26 +11,28 @@ use Rattle.std.proofs.lemmas.Option.{slice_get-get_or, slice_get_past}
 use Rattle.std.proofs.lemmas.List.Elements.{All-nil, All-cons}
 use Rattle.std.proofs.lemmas.List.FromFn.{get_or-map-range_with_len, length-map-range_with_len}
 use Rattle.dem_num.specs.declared.vector.Vec3.{Vec3}
-use Rattle.dem_num.specs.Vectors.{narrowed, no_vector, widened, dot_of, sum_of, Within, is_zero}
+use Rattle.dem_num.specs.Vectors.{no_vector, widened, dot_of, sum_of, Within}
 use Rattle.dem_num.specs.Numbers.{quotient, shifted}
 use Rattle.dem_num.specs.Rotations.{quat_norm2_of, matrix_of, turned_by, turned_of, matrix_entry_of, axial, mixed_sum, mixed_difference}
 use Rattle.dem_model.specs.SceneValue.{SceneValue}
 use Rattle.dem_model.specs.Position.{in_box, in_voxels}
 use Rattle.dem_model.specs.Spheres.{balls_of, spheres_of, spheres_from, spheres_of_clump, sphere_of, center_of}
-use Rattle.dem_model.specs.Sound.{IsFrom, IsBetween, EachBetween, IsMaterial, IsBall, IsTemplate, IsBody, IsBodyOf, IsClump, IsWall, IsForm, IsSound}
+use Rattle.dem_model.specs.Sound.{IsFrom, EachBetween, IsMaterial, IsBall, IsTemplate, IsClump, IsWall, IsMotion, IsOff, IsSound}
 use Rattle.dem_model.specs.Centers.{still_body}
-use Rattle.dem_model.specs.declared.limits.TheConstants.{MAX_MOMENT, MAX_OFFSET, MAX_RADIUS, MAX_GRAVITY, MAX_SPHERES, MIN_NORM2, MAX_NORM2, VOXEL}
+use Rattle.dem_model.specs.declared.limits.TheConstants.{MAX_MOMENT, MAX_OFFSET, MAX_SPHERES, MIN_NORM2, MAX_NORM2, VOXEL}
 use Rattle.dem_model.specs.declared.shape.Ball.{Ball}
 use Rattle.dem_model.specs.declared.shape.Material.{Material}
 use Rattle.dem_model.specs.declared.shape.Template.{Template}
 use Rattle.dem_model.specs.declared.shape.Wall.{Wall}
 use Rattle.dem_model.specs.declared.state.Body.{Body}
 use Rattle.dem_model.specs.declared.state.Clump.{Clump}
-use Rattle.dem_model.specs.Made.{edge_of, made_ball, made_clump, made_clumps, made_floor, made_material, made_of, made_place, made_template, made_templates, made_velocity, place_in, speed_from, state_after, word_of}
+use Rattle.dem_model.specs.declared.family.Motion.{Motion}
+use Rattle.dem_model.specs.declared.family.Off.{Off}
+use Rattle.dem_model.specs.Made.{made_ball, made_clump, made_clumps, made_floor, made_material, made_place, made_template, made_templates, made_velocity, place_in, speed_from, state_after, word_of}
 
 -- the scene with these lists
-abbrev pub made_with : (edge : ℕ) → List Material → List Template → List Wall → List Clump → SceneValue
-made_with edge materials templates walls clumps = record {
+abbrev pub made_with : (edge : ℕ) → List Material → List Template → List Wall → List Clump → List Motion → List Off → SceneValue
+made_with edge materials templates walls clumps motions off = record {
   nx = 32 * (edge + 2);
   ny = 32 * (edge + 2);
   nz = 32 * (edge + 2);
@@ -43,6 +45,8 @@ made_with edge materials templates walls clumps = record {
   templates = templates;
   walls = walls;
   clumps = clumps;
+  motions = motions;
+  off = off;
 }
 
 -- ---- lists
@@ -68,6 +72,7 @@ material_sound = record {
   bn = omega arith;
   bt = omega arith;
   mu = omega arith;
+  mr = omega arith;
 }
 
 no_offset : turned_of still_body.q no_vector ≡ no_vector
@@ -203,7 +208,7 @@ center_is p v words = ap (λ t. sum_of (widened p) t) no_offset ∙ unmoved p
 -- one clump of a scene with these templates
 module _ (words seed edge i : ℕ) (some : 1 ≤ edge) (room : i < edge * edge * edge) (materials : List Material) (walls : List Wall) (clumps : List Clump) where
   abbrev scene : SceneValue
-  scene = made_with edge materials (made_templates seed) walls clumps
+  scene = made_with edge materials (made_templates seed) walls clumps [] []
 
   at : IsTrue (in_box scene (widened (made_place (state_after words 1) edge i)))
   at = place_sound (state_after words 1) edge i some room scene refl refl refl
@@ -227,6 +232,7 @@ module _ (words seed edge i : ℕ) (some : 1 ≤ edge) (room : i < edge * edge *
   unfolding made_clump
   clump_sound = record {
     t = omega (arith, template_below, template_count seed);
+    family = omega arith;
     body = record {
       body = record { v = velocity_sound (state_after words 4); w = still 1048576; q = norm2; p = at };
       centers = centers;
@@ -258,7 +264,7 @@ spheres_few words k (c ∷ cs) =
 
 module _ (seed words edge count : ℕ) (some : 1 ≤ count) (many : count ≤ 16384) (few : edge ≤ 26) (least : 1 ≤ edge) (room : count ≤ edge * edge * edge) where
   abbrev made : SceneValue
-  made = made_with edge (made_material ∷ []) (made_templates seed) (made_floor ∷ []) (made_clumps words edge count)
+  made = made_with edge (made_material ∷ []) (made_templates seed) (made_floor ∷ []) (made_clumps words edge count) [] []
 
   clumps_sound : All (IsClump made) (made_clumps words edge count)
   unfolding made_clumps
@@ -293,11 +299,17 @@ module _ (seed words edge count : ℕ) (some : 1 ≤ count) (many : count ≤ 16
     clump_count = record { low_le = omega (arith, clump_count); le_high = omega (arith, clump_count) };
     clumps = clumps_sound;
     sphere_count = sphere_count;
+    motion_count = omega arith;
+    motions = All-nil IsMotion;
+    ascending = record {};
+    off_count = omega arith;
+    off = All-nil IsOff;
   }
 
   -- the scene of lists that have these values
-  pub sound_of : (materials : List Material) (templates : List Template) (walls : List Wall) (clumps : List Clump)
-      → materials ≡ made_material ∷ [] → templates ≡ made_templates seed → walls ≡ made_floor ∷ [] → clumps ≡ made_clumps words edge count
-      → IsSound (made_with edge materials templates walls clumps)
-  sound_of materials templates walls clumps m t w c =
-      subst (λ (z : List Material × List Template × List Wall × List Clump). IsSound (made_with edge z.0 z.1 z.2 z.3)) (λ j. (sym m j, sym t j, sym w j, sym c j)) sound
+  pub sound_of : (materials : List Material) (templates : List Template) (walls : List Wall) (clumps : List Clump) (motions : List Motion) (off : List Off)
+      → materials ≡ made_material ∷ [] → templates ≡ made_templates seed → walls ≡ made_floor ∷ [] → clumps ≡ made_clumps words edge count → motions ≡ [] → off ≡ []
+      → IsSound (made_with edge materials templates walls clumps motions off)
+  sound_of materials templates walls clumps motions off m t w c v o =
+      subst (λ (z : List Material × List Template × List Wall × List Clump × List Motion × List Off). IsSound (made_with edge z.0 z.1 z.2 z.3 z.4 z.5))
+      (λ j. (sym m j, sym t j, sym w j, sym c j, sym v j, sym o j)) sound

@@ -1,5 +1,5 @@
 -- Words by number, from any state on.
-use Rattle.std.proofs.Common.{◌≡◌, ℕ, zero, suc, ◌+◌, refl, ap, ◌∙◌, sym, arith}
+use Rattle.std.proofs.Common.{◌≡◌, ℕ, zero, suc, ◌+◌, refl, ap, ◌∙◌, arith}
 use Rattle.rand_xoshiro.specs.SplitMix64.{mix_u64}
 use Rattle.dem_model.specs.Made.{state_after, word_of}
 

@@ -58,6 +58,7 @@ fn clump(words: &mut SplitMix64, edge: u64, i: u64) -> Clump
     let w = Vec3 { x: 0, y: 0, z: 0 };
     Clump {
         t,
+        family: 0,
         body: Body { p, q, v, w },
     }
 }

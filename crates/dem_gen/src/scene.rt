@@ -45,6 +45,8 @@ pub fn made_scene(alloc: Global, seed: u64, count: u32) -> Result<Scene, OutOfMe
         templates,
         walls,
         clumps,
+        motions: List::new(alloc),
+        off: List::new(alloc),
     })
 }
 
@@ -59,6 +61,7 @@ fn materials(alloc: Global) -> Result<List<Material>, OutOfMemory>
         bn: 26_214,
         bt: 26_214,
         mu: 32_768,
+        mr: 0,
     })?;
     Ok(materials)
 }

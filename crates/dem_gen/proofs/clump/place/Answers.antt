@@ -1,6 +1,5 @@
-use Rattle.std.proofs.Common.{◌≡◌, ◌∙◌, ◌*◌, ◌/◌, ◌%◌, ap, arith, w64}
+use Rattle.std.proofs.Common.{◌≡◌, ◌∙◌, ◌*◌, ◌/◌, ◌%◌, ap, w64}
 use Rattle.std.proofs.lemmas.Int.{to_z-of_z}
-use Rattle.dem_num.specs.declared.vector.Vec3.{Vec3}
 use Rattle.dem_model.specs.Made.{made_place, place_in, state_after, word_of}
 use Rattle.dem_gen.proofs.WordFacts.{after_more, word_later}
 use Rattle.dem_gen.proofs.clump.place.Goals as goal

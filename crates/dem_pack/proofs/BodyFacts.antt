@@ -109,6 +109,7 @@ module _ (s : SceneValue) (a : Ask) (ask : IsAsk a) (fits : fits_box s a ≡ tru
   sound-clump : (p : Vec3) → IsDeepCell (extent_of balls) (region_between a.lo a.hi) p → IsClump s (standing (stand_at a.t p))
   sound-clump p cell = record {
     t = there;
+    family = omega arith;
     body = record {
       body = record { v = still s.speed; w = still s.spin; q = norm2; p = position-in p cell };
       centers = centers-in p cell;

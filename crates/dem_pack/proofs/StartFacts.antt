@@ -1,15 +1,15 @@
 -- A scene with the stands of a packing begins without a touch of two spheres.
-use Rattle.std.proofs.Common.{◌≡◌, ℕ, zero, suc, ◌+◌, ◌<◌, Bool, true, false, nat_lt, List, [], ◌∷◌, map, length, get_or, None, refl, sym, ap, ◌∙◌, subst, arith}
-use Rattle.std.specs.Prelude.{All, AllPairs, ◌==◌, not, if◌then◌else◌}
-use Rattle.std.proofs.lemmas.Bool.{lt-ltb, and_parts, eqb-false}
+use Rattle.std.proofs.Common.{◌≡◌, ℕ, zero, suc, ◌+◌, ◌<◌, List, [], ◌∷◌, map, length, get_or, None, refl, sym, ap, ◌∙◌, subst, arith}
+use Rattle.std.specs.Prelude.{All, AllPairs}
+use Rattle.std.proofs.lemmas.Bool.{lt-ltb}
 use Rattle.std.proofs.lemmas.List.{get_or-map, length-map}
-use Rattle.std.proofs.lemmas.List.Elements.{All-nil, All-append, All-map, Contains-get_or}
+use Rattle.std.proofs.lemmas.List.Elements.{All-nil, All-append, All-map}
 use Rattle.dem_num.specs.declared.vector.Vec3.{Vec3}
 use Rattle.dem_num.specs.Vectors.{widened, narrowed, no_vector, difference_of}
 use Rattle.dem_model.specs.SceneValue.{SceneValue}
 use Rattle.dem_model.specs.Centers.{body_at, center_at, centers_of, placed, still_body, touch_of}
 use Rattle.dem_model.specs.Packing.{AreClear, StandClear, center_in}
-use Rattle.dem_model.specs.Pairs.{all_pairs, apart, no_sphere, sphere_at, sphere_count}
+use Rattle.dem_model.specs.Pairs.{no_sphere, sphere_at, sphere_count}
 use Rattle.dem_model.specs.Plain.{first_state}
 use Rattle.dem_model.specs.Spheres.{Sphere, balls_of, center_of, sphere_of, spheres_from, spheres_of, spheres_of_clump}
 use Rattle.dem_model.specs.Stands.{standing, standing_body, with_stands}
@@ -20,7 +20,6 @@ use Rattle.dem_model.specs.declared.state.Body.{Body}
 use Rattle.dem_model.specs.declared.state.Clump.{Clump}
 use Rattle.dem_model.specs.declared.state.Pair.{Pair}
 use Rattle.dem_model.specs.declared.state.Stand.{Stand}
-use Rattle.dem_model.proofs.PairFacts.{all_pairs-are, apart-order}
 use Rattle.dem_pack.specs.Starts.{BeginsApart}
 use Rattle.dem_pack.proofs.ListFacts.{AllPairs-append}
 
@@ -109,23 +108,8 @@ of-scene : (gap : ℕ) (s : SceneValue) (stands : List Stand) → AllPairs (Stan
 unfolding spheres_of
 of-scene gap s stands clear = spheres-untouched gap s.templates (first_state (with_stands s stands)).bodies 0 stands (stand-body s stands) clear
 
-not-true : (b : Bool) → not b ≡ true → b ≡ false
-not-true false is = refl
-not-true true is = sym is
-
--- spheres of a pair that may touch are of different clumps
-of-two-clumps : (s : SceneValue) (p : Pair) → p.b < sphere_count s → apart s p ≡ true → (sphere_at s p.a).clump ≡ (sphere_at s p.b).clump → ⊥
-unfolding apart
-of-two-clumps s p there is same =
-    let parts = and_parts (nat_lt p.a p.b) _ is in
-    let differ : not ((sphere_at s p.a).clump == (sphere_at s p.b).clump) ≡ true =
-    ap (λ t. if t then not ((sphere_at s p.a).clump == (sphere_at s p.b).clump) else true) (sym (lt-ltb p.b (sphere_count s) there)) ∙ parts.1 in
-    eqb-false (sphere_at s p.a).clump (sphere_at s p.b).clump (not-true ((sphere_at s p.a).clump == (sphere_at s p.b).clump) differ) same
-
 -- no two spheres touch where a scene with the stands begins
 pub begins-apart : (gap : ℕ) (s : SceneValue) (stands : List Stand) → AllPairs (StandClear gap s.templates) stands → BeginsApart (with_stands s stands)
-begins-apart gap s stands clear = λ k d lt there.
+begins-apart gap s stands clear = λ p before there differ.
     let w = with_stands s stands in
-    let p = get_or (all_pairs w) k d in
-    let is = all_pairs-are w p (Contains-get_or (all_pairs w) k d lt) in
-    pair-untouched w p (first_state w).bodies (of-scene gap s stands clear) (apart-order w p is.is_apart) there (of-two-clumps w p there is.is_apart)
+    pair-untouched w p (first_state w).bodies (of-scene gap s stands clear) before there differ

@@ -75,7 +75,7 @@ body_sound s bodies k d sound lt =
 rest_from : (s : SceneValue) (step k : ℕ) (bodies : List Body) (loads : List Load) (b : Body) (w : Load) → k < length s.clumps →
     length bodies ≡ length s.clumps → length loads ≡ length s.clumps →
     advanced_from s step k (drop k s.clumps) (drop k bodies) (drop k loads)
-    ≡ joined (ended step k (advance_of s (clump_at s k).t (get_or bodies k b) (get_or loads k w))) (advanced_from s step (k + 1) (drop (k + 1) s.clumps) (drop (k + 1) bodies) (drop (k + 1) loads))
+    ≡ joined (ended step k (advance_of s (clump_at s k) (get_or bodies k b) (get_or loads k w))) (advanced_from s step (k + 1) (drop (k + 1) s.clumps) (drop (k + 1) bodies) (drop (k + 1) loads))
 rest_from s step k bodies loads b w lt lb lw =
     let cs : drop k s.clumps ≡ clump_at s k ∷ drop (k + 1) s.clumps = unfold clump_at in drop_more s.clumps k no_clump lt in
     let bs : drop k bodies ≡ get_or bodies k b ∷ drop (k + 1) bodies = drop_more bodies k b (omega arith) in
@@ -100,11 +100,11 @@ each_more s k old new x push count sound each j below =
 -- one more clump has advanced
 pub AreAdvanced-more : (s : SceneValue) (step : ℕ) (bodies : List Body) (loads : List Load) (k : ℕ) (old new : List Body) (b : Body) (w : Load) (x : Body) →
     k < length s.clumps → length bodies ≡ length s.clumps → length loads ≡ length s.clumps →
-    advance_of s (clump_at s k).t (get_or bodies k b) (get_or loads k w) ≡ Ok x → IsBodyOf s (clump_at s k) x → new ≡ old ++ x ∷ [] →
+    advance_of s (clump_at s k) (get_or bodies k b) (get_or loads k w) ≡ Ok x → IsBodyOf s (clump_at s k) x → new ≡ old ++ x ∷ [] →
     AreAdvanced s step bodies loads k old → AreAdvanced s step bodies loads (k + 1) new
 AreAdvanced-more s step bodies loads k old new b w x lt lb lw ok sound push h =
     let rest = rest_from s step k bodies loads b w lt lb lw in
-    let here : ended step k (advance_of s (clump_at s k).t (get_or bodies k b) (get_or loads k w)) ≡ Ok x = ap (ended step k) ok ∙ unfold ended in refl in
+    let here : ended step k (advance_of s (clump_at s k) (get_or bodies k b) (get_or loads k w)) ≡ Ok x = ap (ended step k) ok ∙ unfold ended in refl in
     record {
       count = ap length push ∙ length_push old x ∙ omega (arith, h.count);
       prefix =
@@ -119,10 +119,10 @@ AreAdvanced-more s step bodies loads k old new b w x lt lb lw ok sound push h =
 -- a clump that passes a limit ends the step
 pub advanced_ends : (s : SceneValue) (step : ℕ) (bodies : List Body) (loads : List Load) (k : ℕ) (next : List Body) (b : Body) (w : Load) (kind : EndKind) →
     k < length s.clumps → length bodies ≡ length s.clumps → length loads ≡ length s.clumps →
-    advance_of s (clump_at s k).t (get_or bodies k b) (get_or loads k w) ≡ Err kind → AreAdvanced s step bodies loads k next →
+    advance_of s (clump_at s k) (get_or bodies k b) (get_or loads k w) ≡ Err kind → AreAdvanced s step bodies loads k next →
     advanced_from s step 0 s.clumps bodies loads ≡ Err (record { step = step; kind = kind; clump = k })
 advanced_ends s step bodies loads k next b w kind lt lb lw err h =
-    let here : ended step k (advance_of s (clump_at s k).t (get_or bodies k b) (get_or loads k w)) ≡ Err (record { step = step; kind = kind; clump = k }) = ap (ended step k) err ∙ unfold ended in refl in
+    let here : ended step k (advance_of s (clump_at s k) (get_or bodies k b) (get_or loads k w)) ≡ Err (record { step = step; kind = kind; clump = k }) = ap (ended step k) err ∙ unfold ended in refl in
     sym h.prefix
     ∙ ap (with_prefix next) (rest_from s step k bodies loads b w lt lb lw)
     ∙ ap (λ r. with_prefix next (joined r (advanced_from s step (k + 1) (drop (k + 1) s.clumps) (drop (k + 1) bodies) (drop (k + 1) loads)))) here

@@ -17,7 +17,7 @@ use Rattle.dem_num.proofs.VectorSizes.{scaled_within, quotients_within, clamped_
 use Rattle.dem_model.specs.SceneValue.{SceneValue}
 use Rattle.dem_model.specs.Centers.{touch_of}
 use Rattle.dem_model.specs.Fit.{held_pairs}
-use Rattle.dem_model.specs.Law.{across_normal, carried_of, held_after, push_with, pushed_of, contact_of}
+use Rattle.dem_model.specs.Law.{across_normal, carried_of, held_after, push_with, with_rolling, pushed_of, contact_of}
 use Rattle.dem_model.specs.Motion.{IsPair}
 use Rattle.dem_model.specs.Pairs.{all_pairs, pair_cmp}
 use Rattle.dem_model.specs.Step.{Meeting, push_of, held_at, meeting, meetings, held_in}
@@ -64,7 +64,7 @@ carried-stored n slip h0 = let w = clamped_within (sum_of (across_normal n (wide
 
 -- the displacement of a contact
 contact-stored : (law : Law) (a b : Side) (t : Touch) (h0 : Vec3) → IsStored (contact_of law a b t h0).h
-unfolding contact_of pushed_of push_with
+unfolding contact_of pushed_of with_rolling push_with
 contact-stored law a b t h0 = held_after-stored law.kt _ _ _ (carried-stored t.n _ h0)
 
 -- ---- the meetings of a step

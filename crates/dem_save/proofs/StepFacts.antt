@@ -5,7 +5,7 @@ use Rattle.dem_num.specs.declared.vector.Wide3.{Wide3}
 use Rattle.dem_num.specs.Vectors.{widened, narrowed, Within}
 use Rattle.dem_num.specs.Rotations.{IsOrientation}
 use Rattle.dem_model.specs.SceneValue.{SceneValue}
-use Rattle.dem_model.specs.Advance.{is_over, leaves_box, swings, body_with, limited, velocity_after, spin_after, mass_of, moments_of, body_torque_of, advance_of}
+use Rattle.dem_model.specs.Advance.{is_over, leaves_box, swings, body_with, limited, advance_of}
 use Rattle.dem_model.specs.Centers.{body_at, still_body}
 use Rattle.dem_model.specs.Motion.{AreSound}
 use Rattle.dem_model.specs.Sound.{IsBodyOf}
@@ -57,11 +57,11 @@ placed-sound s c (Ok b) h = record { body = h.body; centers = h.centers }
 placed-sound s c (Err e) h = tt
 
 -- the step of a clump leaves a sound body
-advance-sound : (s : SceneValue) (c : Clump) (b : Body) (load : Load) → IsBodyOf s c b → IfOk (advance_of s c.t b load) (IsBodyOf s c)
+advance-sound : (s : SceneValue) (c : Clump) (b : Body) (load : Load) → IsBodyOf s c b → IfOk (advance_of s c b load) (IsBodyOf s c)
 unfolding advance_of
 advance-sound s c b load h =
     placed-sound s c _
-    (limited-placed s (balls_of s.templates c.t) b (velocity_after s.gravity (mass_of s.templates c.t) b.v load.force) (spin_after (moments_of s.templates c.t) b.w (body_torque_of b load.torque))
+    (limited-placed s (balls_of s.templates c.t) b _ _
     (record { long_enough = h.body.q.low_le; short_enough = h.body.q.le_high }))
 
 -- ---- all clumps
@@ -90,8 +90,8 @@ unfolding advanced_from
 advanced-sound s step k [] bs ws h = refl
 advanced-sound s step k (c ∷ cs) [] ws h = absurd h
 advanced-sound s step k (c ∷ cs) (b ∷ bs) ws h =
-    joined-sound s c cs (ended step k (advance_of s c.t b (first_load ws))) (advanced_from s step (k + 1) cs bs (drop 1 ws))
-    (ended-sound s c step k (advance_of s c.t b (first_load ws)) (advance-sound s c b (first_load ws) h.0))
+    joined-sound s c cs (ended step k (advance_of s c b (first_load ws))) (advanced_from s step (k + 1) cs bs (drop 1 ws))
+    (ended-sound s c step k (advance_of s c b (first_load ws)) (advance-sound s c b (first_load ws) h.0))
     (advanced-sound s step (k + 1) cs bs (drop 1 ws) h.1)
 
 -- ---- by number

@@ -21,12 +21,12 @@ use Rattle.dem_step.proofs.RoomFacts.{take-next, take-whole}
 
 -- the body of a clump after the step is what the body and the load that were read for it come to
 pub advanced-read : (s : SceneValue) (bodies : List Body) (loads : List Load) (k : ℕ) (d : Body) (e : Load) (r : Result Body EndKind) → k < length bodies → k < length loads →
-    r ≡ advance_of s (clump_at s k).t (get_or bodies k d) (get_or loads k e) → advanced_at s bodies loads k ≡ r
+    r ≡ advance_of s (clump_at s k) (get_or bodies k d) (get_or loads k e) → advanced_at s bodies loads k ≡ r
 unfolding body_at
 advanced-read s bodies loads k d e r there loaded is =
     sym (is
-    ∙ ap (λ (b : Body). advance_of s (clump_at s k).t b (get_or loads k e)) (get_or_default bodies k d still_body there)
-    ∙ ap (λ (w : Load). advance_of s (clump_at s k).t (get_or bodies k still_body) w) (get_or_default loads k e no_load loaded))
+    ∙ ap (λ (b : Body). advance_of s (clump_at s k) b (get_or loads k e)) (get_or_default bodies k d still_body there)
+    ∙ ap (λ (w : Load). advance_of s (clump_at s k) (get_or bodies k still_body) w) (get_or_default loads k e no_load loaded))
 
 -- no clump of a part has advanced yet
 pub advanced-none : (s : SceneValue) (bodies : List Body) (loads : List Load) (from : ℕ) (next : List Body) → AreAdvancedBetween s bodies loads from from next

@@ -25,7 +25,7 @@ use Rattle.dem_model.specs.Pairs.{all_pairs, sphere_at, sphere_count, no_sphere}
 use Rattle.dem_model.specs.Centers.{body_at, still_body, placed, center_at, centers_of}
 use Rattle.dem_model.specs.Motion.{AreSound, per_step_of}
 use Rattle.dem_model.specs.Near.{drift_of, HasDrifted}
-use Rattle.dem_model.specs.Advance.{is_over, leaves_box, swings, position_after, body_with, limited, velocity_after, spin_after, mass_of, moments_of, body_torque_of, advance_of}
+use Rattle.dem_model.specs.Advance.{is_over, leaves_box, swings, position_after, body_with, limited, advance_of}
 use Rattle.dem_model.specs.Step.{Meeting, meetings, no_load, no_clump, clump_at, loads_of, ended, joined, advanced_from, state_with, step_with, step_of}
 use Rattle.dem_model.specs.Plain.{first_state, state_after, run_after, plain_at}
 use Rattle.dem_model.specs.declared.law.Load.{Load}
@@ -124,12 +124,10 @@ limited-moves s balls b b' v w ok =
     (center_moves s b v w (get_or balls i d) (is_over-within s.speed v kept.fast_not) (swings_within s.spin balls b (body_with b v w) kept.swung_not i d lt))
 
 -- a clump's step moves none of its spheres farther than it may move in one step
-pub advance-moves : (s : SceneValue) (t : ℕ) (b b' : Body) (w : Load) → advance_of s t b w ≡ Ok b' →
-    All (λ (x : Ball). Within (difference_of (center_of b' x) (center_of b x)) (per_step_of s x)) (balls_of s.templates t)
+pub advance-moves : (s : SceneValue) (c : Clump) (b b' : Body) (w : Load) → advance_of s c b w ≡ Ok b' →
+    All (λ (x : Ball). Within (difference_of (center_of b' x) (center_of b x)) (per_step_of s x)) (balls_of s.templates c.t)
 unfolding advance_of
-advance-moves s t b b' w ok =
-    limited-moves s (balls_of s.templates t) b b' (velocity_after s.gravity (mass_of s.templates t) b.v w.force)
-    (spin_after (moments_of s.templates t) b.w (body_torque_of b w.torque)) ok
+advance-moves s c b b' w ok = limited-moves s (balls_of s.templates c.t) b b' _ _ ok
 
 -- ---- all clumps
 
@@ -158,22 +156,22 @@ advanced_from-count s step k [] bs ws next lb lw ok = IfOk-at_ok (λ (xs : List 
 advanced_from-count s step k (c ∷ cs) [] ws next lb lw ok = absurd (omega arith)
 advanced_from-count s step k (c ∷ cs) (b ∷ bs) [] next lb lw ok = absurd (omega arith)
 advanced_from-count s step k (c ∷ cs) (b ∷ bs) (w ∷ ws) next lb lw ok =
-    let j = joined_parts step k (advance_of s c.t b w) (advanced_from s step (k + 1) cs bs ws) next ok in
+    let j = joined_parts step k (advance_of s c b w) (advanced_from s step (k + 1) cs bs ws) next ok in
     ap length j.whole ∙ ap suc (advanced_from-count s step (k + 1) cs bs ws j.others (omega arith) (omega arith) j.tail)
 
 -- the new body of each clump is that of its own step
 advanced_from-at : (s : SceneValue) (step k : ℕ) (cs : List Clump) (bs : List Body) (ws : List Load) (next : List Body) →
     length bs ≡ length cs → length ws ≡ length cs → advanced_from s step k cs bs ws ≡ Ok next →
-    (j : ℕ) → j < length cs → advance_of s (get_or cs j no_clump).t (get_or bs j still_body) (get_or ws j no_load) ≡ Ok (get_or next j still_body)
+    (j : ℕ) → j < length cs → advance_of s (get_or cs j no_clump) (get_or bs j still_body) (get_or ws j no_load) ≡ Ok (get_or next j still_body)
 unfolding advanced_from
 advanced_from-at s step k [] bs ws next lb lw ok j lt = absurd (omega arith)
 advanced_from-at s step k (c ∷ cs) [] ws next lb lw ok j lt = absurd (omega arith)
 advanced_from-at s step k (c ∷ cs) (b ∷ bs) [] next lb lw ok j lt = absurd (omega arith)
 advanced_from-at s step k (c ∷ cs) (b ∷ bs) (w ∷ ws) next lb lw ok zero lt =
-    let p = joined_parts step k (advance_of s c.t b w) (advanced_from s step (k + 1) cs bs ws) next ok in
+    let p = joined_parts step k (advance_of s c b w) (advanced_from s step (k + 1) cs bs ws) next ok in
     rw p.whole p.head
 advanced_from-at s step k (c ∷ cs) (b ∷ bs) (w ∷ ws) next lb lw ok (suc j) lt =
-    let p = joined_parts step k (advance_of s c.t b w) (advanced_from s step (k + 1) cs bs ws) next ok in
+    let p = joined_parts step k (advance_of s c b w) (advanced_from s step (k + 1) cs bs ws) next ok in
     rw p.whole (advanced_from-at s step (k + 1) cs bs ws p.others (omega arith) (omega arith) p.tail j (omega arith))
 
 -- a sphere's clump is there, and the sphere is one of its template's
@@ -212,12 +210,12 @@ center_at-placed s bodies i lt = get_or-map (placed bodies) (spheres_of s) i no_
 
 -- a sphere moves no farther than it may in one step, where its clump's step is within the limits
 sphere_moves : (s : SceneValue) (x : Sphere) (bodies next : List Body) (w : Load) → StandsIn s x →
-    advance_of s (clump_at s x.clump).t (body_at bodies x.clump) w ≡ Ok (body_at next x.clump) →
+    advance_of s (clump_at s x.clump) (body_at bodies x.clump) w ≡ Ok (body_at next x.clump) →
     Within (difference_of (widened (placed next x)) (widened (placed bodies x))) (per_step_of s x.ball)
 unfolding placed
 sphere_moves s x bodies next w there ok =
     All-contains (λ (y : Ball). Within (difference_of (center_of (body_at next x.clump) y) (center_of (body_at bodies x.clump) y)) (per_step_of s y))
-    (balls_of s.templates (clump_at s x.clump).t) x.ball (advance-moves s (clump_at s x.clump).t (body_at bodies x.clump) (body_at next x.clump) w ok) there.ball
+    (balls_of s.templates (clump_at s x.clump).t) x.ball (advance-moves s (clump_at s x.clump) (body_at bodies x.clump) (body_at next x.clump) w ok) there.ball
 
 -- where all clumps advance, each sphere moves no farther than it may in one step
 pub advanced-drifts : (s : SceneValue) (step : ℕ) (bodies next : List Body) (loads : List Load) → length bodies ≡ length s.clumps → length loads ≡ length s.clumps →
@@ -226,7 +224,7 @@ unfolding drift_of
 advanced-drifts s step bodies next loads lb lw ok = record {
   each = λ i lt.
       let there = sphere_at-stands s i lt in
-      let own : advance_of s (clump_at s (sphere_at s i).clump).t (body_at bodies (sphere_at s i).clump) (get_or loads (sphere_at s i).clump no_load) ≡ Ok (body_at next (sphere_at s i).clump) =
+      let own : advance_of s (clump_at s (sphere_at s i).clump) (body_at bodies (sphere_at s i).clump) (get_or loads (sphere_at s i).clump no_load) ≡ Ok (body_at next (sphere_at s i).clump) =
       unfold clump_at body_at in advanced_from-at s step 0 s.clumps bodies loads next lb lw ok (sphere_at s i).clump there.clump in
       let moves = sphere_moves s (sphere_at s i) bodies next (get_or loads (sphere_at s i).clump no_load) there own in
       rw (center_at-placed s next i lt, center_at-placed s bodies i lt)

@@ -14,7 +14,7 @@ use Rattle.dem_model.specs.declared.state.Body.{Body}
 use Rattle.dem_model.specs.declared.state.Clump.{Clump}
 use Rattle.dem_model.specs.declared.law.Load.{Load}
 use Rattle.dem_model.specs.Spheres.{balls_of}
-use Rattle.dem_model.specs.Advance.{position_after, body_with, velocity_after, spin_after, mass_of, moments_of, body_torque_of, advance_of}
+use Rattle.dem_model.specs.Advance.{position_after, body_with, advance_of}
 use Rattle.dem_voxel.specs.declared.position.VoxelPos.{VoxelPos}
 use Rattle.dem_voxel.specs.Voxel.{is_packable, in_box_of, packed_in}
 use Rattle.dem_voxel.proofs.VoxelFacts.{is_packable_in}
@@ -51,11 +51,10 @@ moved_there s nx ny nz p q r x y z e inside is =
     subst IsSome (sym is) (rw here refl)
 
 -- a step within the limits moves a clump by the velocity that it gives
-pub advance-leads : (s : SceneValue) (t : ℕ) (b b' : Body) (w : Load) → advance_of s t b w ≡ Ok b' → widened b'.p ≡ sum_of (widened b.p) (shifted_each (widened b'.v) 16)
+pub advance-leads : (s : SceneValue) (c : Clump) (b b' : Body) (w : Load) → advance_of s c b w ≡ Ok b' → widened b'.p ≡ sum_of (widened b.p) (shifted_each (widened b'.v) 16)
 unfolding advance_of body_with position_after
-advance-leads s t b b' w ok =
-    let kept =
-    limited_kept s (balls_of s.templates t) b b' (velocity_after s.gravity (mass_of s.templates t) b.v w.force) (spin_after (moments_of s.templates t) b.w (body_torque_of b w.torque)) ok in
+advance-leads s c b b' w ok =
+    let kept = limited_kept s (balls_of s.templates c.t) b b' _ _ ok in
     subst (λ (n : Body). widened n.p ≡ sum_of (widened b.p) (shifted_each (widened n.v) 16)) (sym kept.same) refl
 
 -- each clump starts in the box

@@ -23,7 +23,7 @@ pub record CanAdvance (s : SceneValue) (stored bodies : List Body) (turns : List
 
 -- the body of a clump after the step, or the limit that it passes
 abbrev pub advanced_at : SceneValue → List Body → List Load → ℕ → Result Body EndKind
-advanced_at s bodies loads k = advance_of s (clump_at s k).t (body_at bodies k) (slice_index_or loads k no_load)
+advanced_at s bodies loads k = advance_of s (clump_at s k) (body_at bodies k) (slice_index_or loads k no_load)
 
 -- this is the body of a clump after the step, and sound for it
 pub record IsAdvanced (s : SceneValue) (bodies : List Body) (loads : List Load) (k : ℕ) (b : Body) : Type 0 where

@@ -41,6 +41,7 @@ fn rough() -> Law
         bn: 0,
         bt: 0,
         mu: 32768,
+        mr: 0,
     };
     mix(&material, &material)
 }
@@ -62,6 +63,7 @@ fn pushes_two_spheres_apart(rt: HostRuntime) {
         bn: 0,
         bt: 0,
         mu: 0,
+        mr: 0,
     };
     let touch = Touch {
         n: Vec3 {

@@ -6,4 +6,5 @@ use Rattle.dem_shape.proofs.shapes.Shapes.meets.Goals as goal
 pub returns-clause-listed : goal.returns-clause-listed
 returns-clause-listed c = (
   (λ t. all_pairs-all c.args.self.now (pair_of c.args.a c.args.b) (record { first = c.requires.first; second = c.requires.there; is_apart = sym c.is_apart.ensures ∙ t })),
-  (λ h. c.is_apart.ensures ∙ (all_pairs-are c.args.self.now (pair_of c.args.a c.args.b) h).is_apart))
+  (λ h. c.is_apart.ensures ∙ (all_pairs-are c.args.self.now (pair_of c.args.a c.args.b) h).is_apart),
+)

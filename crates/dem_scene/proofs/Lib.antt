@@ -2,6 +2,7 @@ pub mod Trees
 pub mod GivesFacts
 pub mod Elements
 pub mod ClumpFacts
+pub mod FamilyFacts
 pub mod TableFacts
 pub mod PlaceFacts
 pub mod JsonFacts

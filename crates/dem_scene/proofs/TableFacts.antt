@@ -84,4 +84,9 @@ sound_from_table s h clumps = record {
   clump_count = h.clump_count;
   clumps = clumps;
   sphere_count = h.sphere_count;
+  motion_count = h.motion_count;
+  motions = h.motions;
+  ascending = h.ascending;
+  off_count = h.off_count;
+  off = h.off;
 }

@@ -8,6 +8,7 @@ use Rattle.serde_json.specs.declared.value.Value.{Value}
 use Rattle.serde_json.specs.View.{items_view, members_view}
 use Rattle.dem_model.specs.Reading.{names_in, count_of}
 use Rattle.dem_model.specs.ReadingVectors.{three_of, four_of}
+use Rattle.dem_model.specs.ReadingKinds.{two_of}
 
 -- the members' names are the map's keys
 pub all_names : (test : List ℕ → Bool) (ms : List (String Global × Value)) → list_all test (names_in (members_view ms)) ≡ list_all (λ (k : String Global). test (string_bytes k)) (keys_of ms)
@@ -18,6 +19,19 @@ all_names test (m ∷ ms) = ap (λ b. test (string_bytes m.0) && b) (all_names t
 pub counts_items : (vs : List Value) → count_of (items_view vs) ≡ length vs
 counts_items [] = refl
 counts_items (v ∷ vs) = ap suc (counts_items vs)
+
+-- a list of fewer than two elements is no entry of two numbers
+pub two_short : (vs : List Value) → length vs < 2 → two_of (items_view vs) ≡ None
+two_short [] h = refl
+two_short (a ∷ []) h = refl
+two_short (a ∷ b ∷ vs) h = absurd (omega arith)
+
+-- a list of more than two elements is no entry of two numbers
+pub two_long : (vs : List Value) → 3 ≤ length vs → two_of (items_view vs) ≡ None
+two_long [] h = refl
+two_long (a ∷ []) h = refl
+two_long (a ∷ b ∷ []) h = absurd (omega arith)
+two_long (a ∷ b ∷ c ∷ vs) h = refl
 
 -- a list of fewer than three elements is no vector
 pub three_short : (vs : List Value) → length vs < 3 → three_of (items_view vs) ≡ None

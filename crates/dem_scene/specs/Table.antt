@@ -3,9 +3,9 @@ use Rattle.std.specs.Prelude.{◌≤◌, length, All}
 use Rattle.dem_num.specs.Vectors.{widened, Within}
 use Rattle.dem_model.specs.SceneValue.{SceneValue}
 use Rattle.dem_model.specs.Spheres.{spheres_of}
-use Rattle.dem_model.specs.Sound.{IsFrom, IsMaterial, IsTemplate}
+use Rattle.dem_model.specs.Sound.{IsFrom, IsMaterial, IsTemplate, IsMotion, AreAscending, IsOff}
 use Rattle.dem_model.specs.ReadingKinds.{greatest_radius}
-use Rattle.dem_model.specs.declared.limits.TheConstants.{MAX_VOXELS, MAX_STEPS, MAX_SPEED, MAX_SPIN, MAX_GRAVITY, MAX_MATERIALS, MAX_TEMPLATES, MAX_WALLS, MAX_CLUMPS, MAX_SPHERES}
+use Rattle.dem_model.specs.declared.limits.TheConstants.{MAX_VOXELS, MAX_STEPS, MAX_SPEED, MAX_SPIN, MAX_GRAVITY, MAX_MATERIALS, MAX_TEMPLATES, MAX_WALLS, MAX_CLUMPS, MAX_SPHERES, MAX_MOTIONS, MAX_OFF}
 use Rattle.dem_scene.specs.Walls.{IsWallBeyond}
 use Rattle.dem_scene.specs.Clumps.{IsClumpRead}
 
@@ -28,3 +28,8 @@ pub record KeepsTable (s : SceneValue) : Type 0 where
   pub clump_count : IsFrom 1 MAX_CLUMPS (length s.clumps)
   pub clumps : All (IsClumpRead s.templates) s.clumps
   pub sphere_count : length (spheres_of s) ≤ MAX_SPHERES
+  pub motion_count : length s.motions ≤ MAX_MOTIONS
+  pub motions : All IsMotion s.motions
+  pub ascending : AreAscending 0 s.motions
+  pub off_count : length s.off ≤ MAX_OFF
+  pub off : All IsOff s.off

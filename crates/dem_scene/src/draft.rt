@@ -4,21 +4,22 @@ ghost use Rattle.std.specs.Prelude.{◌≡◌, codes, pos, unsigned_abs, IfOk, A
 ghost use Rattle.serde_json.specs.View.{view};
 ghost use Rattle.dem_model.specs.Reading.{spot, from_to};
 ghost use Rattle.dem_model.specs.ReadingVectors.{vector_at};
-ghost use Rattle.dem_model.specs.ReadingScene.{version_of, check_version, table_of};
+ghost use Rattle.dem_model.specs.ReadingScene.{is_later, version_of, check_version, table_of};
 ghost use Rattle.dem_model.specs.Sound.{IsFrom, IsBetween, EachBetween, IsClump};
 ghost use Rattle.dem_scene.specs.Gives.{Gives};
 ghost use Rattle.dem_scene.specs.Table.{KeepsTable};
 
 use crate::clump::read_clumps;
+use crate::families::{read_motions, read_off};
 use crate::material::read_materials;
 use crate::number::{number, small_number, spot, whole};
-use crate::object::check;
+use crate::object::check_in;
 use crate::template::{read_templates, widest};
 use crate::vector::{vector_between, vector_or_zero};
 use crate::wall::read_walls;
 use dem_model::{
-    Clump, List, MAX_GRAVITY, MAX_SPEED, MAX_SPIN, MAX_STEPS, MAX_VOXELS, Material, Name, Scene,
-    SceneFault, Spot, Template, Wall,
+    Clump, List, MAX_GRAVITY, MAX_SPEED, MAX_SPIN, MAX_STEPS, MAX_VOXELS, Material, Motion, Name,
+    Off, Scene, SceneFault, Spot, Template, Wall,
 };
 use dem_num::Vec3;
 use serde_json::Value;
@@ -40,6 +41,8 @@ pub(crate) struct Draft {
     pub(crate) templates: List<Template>,
     pub(crate) walls: List<Wall>,
     pub(crate) clumps: List<Clump>,
+    pub(crate) motions: List<Motion>,
+    pub(crate) off: List<Off>,
 }
 
 impl Model for Draft {
@@ -60,22 +63,36 @@ impl Model for Draft {
       templates = a.templates;
       walls = a.walls;
       clumps = a.clumps;
+      motions = a.motions;
+      off = a.off;
     } };
 }
 
-/// The version is 1.
+/// Whether a scene is one of version 2.
+#[tactic(auto, unfolding(dem_model::specs::ReadingScene::is_later))]
+fn is_later(value: &Value) -> bool
+    ensures { result ≡ is_later (view value.now) }
+{
+    match value.get("version").and_then(Value::as_i64) {
+        Some(number) => number == 2,
+        None => false,
+    }
+}
+
+/// The version is 1 or 2.
 #[tactic(auto, unfolding(dem_model::specs::ReadingScene::version_of))]
 fn version(value: &Value, at: Spot) -> Result<(), SceneFault>
     ensures { result ≡ version_of at (view value.now) }
 {
-    if whole(value, at)? == 1 {
+    let number = whole(value, at)?;
+    if number == 1 || number == 2 {
         Ok(())
     } else {
         Err(SceneFault::Version)
     }
 }
 
-/// The version of the scene object is 1.
+/// The version of the scene object is 1 or 2.
 #[tactic(auto, unfolding(dem_model::specs::ReadingScene::check_version))]
 fn check_version(value: &Value) -> Result<(), SceneFault>
     ensures { result ≡ check_version (view value.now) }
@@ -116,7 +133,8 @@ pub(crate) fn table(alloc: Global, value: &Value) -> Result<Draft, SceneFault>
     ensures value { Gives result (table_of (view value.now)) }
     ensures range { IfOk result KeepsTable }
 {
-    check(value, spot(Name::Scene, 0, 0))?;
+    let later = is_later(value);
+    check_in(later, value, spot(Name::Scene, 0, 0))?;
     check_version(value)?;
     let size = size(value)?;
     let steps = small_number(value, "steps", 0, MAX_STEPS, spot(Name::Steps, 0, 0))?;
@@ -128,7 +146,9 @@ pub(crate) fn table(alloc: Global, value: &Value) -> Result<Draft, SceneFault>
     let count = materials.len() as u32;
     let templates = read_templates(alloc, value, count)?;
     let walls = read_walls(alloc, value, count, widest(templates.as_slice()))?;
-    let clumps = read_clumps(alloc, &templates, value)?;
+    let motions = read_motions(alloc, value)?;
+    let off = read_off(alloc, value)?;
+    let clumps = read_clumps(alloc, later, &templates, value)?;
     Ok(Draft {
         nx: voxels(size.x),
         ny: voxels(size.y),
@@ -142,6 +162,8 @@ pub(crate) fn table(alloc: Global, value: &Value) -> Result<Draft, SceneFault>
         templates,
         walls,
         clumps,
+        motions,
+        off,
     })
 }
 
@@ -165,6 +187,8 @@ pub(crate) fn scene(draft: Draft) -> Scene
         templates,
         walls,
         clumps,
+        motions,
+        off,
     } = draft;
     Scene {
         nx,
@@ -179,5 +203,7 @@ pub(crate) fn scene(draft: Draft) -> Scene
         templates,
         walls,
         clumps,
+        motions,
+        off,
     }
 }

@@ -10,6 +10,7 @@
 
 mod clump;
 mod draft;
+mod families;
 mod list;
 mod material;
 mod number;

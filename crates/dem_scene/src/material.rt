@@ -41,7 +41,7 @@ pub(crate) fn read_materials(alloc: Global, value: &Value) -> Result<List<Materi
     list(alloc, &Materials, value, "materials", 1, MAX_MATERIALS, at)
 }
 
-/// A material: stiffness, damping and friction.
+/// A material: stiffness, damping, friction and rolling resistance.
 #[tactic(auto, unfolding(dem_model::specs::ReadingKinds::material_of))]
 fn material(value: &Value, i: u32) -> Result<Material, SceneFault>
     ensures value { result ≡ material_of i (view value.now) }
@@ -53,5 +53,13 @@ fn material(value: &Value, i: u32) -> Result<Material, SceneFault>
     let bn = small_number_or_zero(value, "bn", MAX_RATIO, spot(Name::MaterialsBn, i, 0))?;
     let bt = small_number_or_zero(value, "bt", MAX_RATIO, spot(Name::MaterialsBt, i, 0))?;
     let mu = small_number_or_zero(value, "mu", MAX_RATIO, spot(Name::MaterialsMu, i, 0))?;
-    Ok(Material { kn, kt, bn, bt, mu })
+    let mr = small_number_or_zero(value, "mr", MAX_RATIO, spot(Name::MaterialsMr, i, 0))?;
+    Ok(Material {
+        kn,
+        kt,
+        bn,
+        bt,
+        mu,
+        mr,
+    })
 }

@@ -78,7 +78,7 @@ pub(crate) fn is_sized(v: Vec3, m: u64) -> bool
 
 /// Whether a number is from `low` to `high`.
 #[tactic(auto, unfolding(dem_model::specs::Reading::from_to))]
-fn is_from(z: i64, low: u64, high: u64) -> bool
+pub(crate) fn is_from(z: i64, low: u64, high: u64) -> bool
     ensures value { result ≡ from_to low high z }
     ensures between { IsTrue result → IsBetween (pos low) (pos high) z }
 {

@@ -10,7 +10,7 @@ use Rattle.dem_scene.proofs.clump.clumps_each.Given as goal
 -- what was read so far, and then what is read of the others, is what is read of all
 abbrev pub invariant-loop-i : goal.invariant-loop-i
 invariant-loop-i l = record {
-  so_far : clumps_rest l.templates l.found l.before l.i l.values ≡ clumps_from l.templates 0 0 (items_view l.values);
+  so_far : clumps_rest l.later l.templates l.found l.before l.i l.values ≡ clumps_from l.later l.templates 0 0 (items_view l.values);
   ranges : All (IsClumpRead l.templates) l.found;
   count : length l.found ≡ l.i;
   counted : length (spheres_from l.templates 0 l.found) ≡ l.before;

@@ -20,7 +20,7 @@ use Rattle.dem_scene.proofs.ReadFacts.{then_ok, ordered_at, from_to_passes, at_m
 
 -- the names of each kind, with the room for each value
 material_rooms : Rooms
-material_rooms = (codes "kn", 20) ∷ (codes "kt", 20) ∷ (codes "bn", 20) ∷ (codes "bt", 20) ∷ (codes "mu", 20) ∷ []
+material_rooms = (codes "kn", 20) ∷ (codes "kt", 20) ∷ (codes "bn", 20) ∷ (codes "bt", 20) ∷ (codes "mu", 20) ∷ (codes "mr", 20) ∷ []
 
 sphere_rooms : Rooms
 sphere_rooms = (codes "at", 65) ∷ (codes "r", 20) ∷ (codes "mat", 20) ∷ []
@@ -37,7 +37,7 @@ cylinder_rooms = (codes "axis", 3) ∷ (codes "at", 65) ∷ (codes "r", 20) ∷ 
 wall_rooms : Rooms
 wall_rooms = (codes "plane", 145) ∷ (codes "cylinder", 109) ∷ (codes "mat", 20) ∷ []
 
-pub material_fits : (i : ℕ) (d : Data) (m : Material) → IsOrdered d → material_of i d ≡ Ok m → Fits 132 d
+pub material_fits : (i : ℕ) (d : Data) (m : Material) → IsOrdered d → material_of i d ≡ Ok m → Fits 158 d
 unfolding material_of material_rooms names_of escape_byte
 material_fits i d m o e =
     let a = then_ok (check_object (spot names.Materials i 0) d) _ m e in
@@ -46,6 +46,7 @@ material_fits i d m o e =
     let bn = then_ok (number_or (codes "bn") 0 MAX_RATIO (spot names.MaterialsBn i 0) d) _ m kt.2 in
     let bt = then_ok (number_or (codes "bt") 0 MAX_RATIO (spot names.MaterialsBt i 0) d) _ m bn.2 in
     let mu = then_ok (number_or (codes "mu") 0 MAX_RATIO (spot names.MaterialsMu i 0) d) _ m bt.2 in
+    let mr = then_ok (number_or (codes "mr") 0 MAX_RATIO (spot names.MaterialsMr i 0) d) _ m mu.2 in
     known_fits (spot names.Materials i 0) material_rooms d a.0 refl o a.1 (
       number_at_fits (codes "kn") 1 MAX_STIFFNESS (spot names.MaterialsKn i 0) d kn.0 (omega arith) o kn.1,
       (
@@ -56,7 +57,10 @@ material_fits i d m o e =
             number_or_fits (codes "bt") 0 MAX_RATIO (spot names.MaterialsBt i 0) d bt.0 (omega arith) o bt.1,
             (
               number_or_fits (codes "mu") 0 MAX_RATIO (spot names.MaterialsMu i 0) d mu.0 (omega arith) o mu.1,
-              tt,
+              (
+                number_or_fits (codes "mr") 0 MAX_RATIO (spot names.MaterialsMr i 0) d mr.0 (omega arith) o mr.1,
+                tt,
+              ),
             ),
           ),
         ),

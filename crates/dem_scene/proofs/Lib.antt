@@ -11,6 +11,7 @@ pub mod OrderFacts
 pub mod FitFacts
 pub mod ReadFacts
 pub mod KindFacts
+pub mod MotionFits
 pub mod PartFacts
 pub mod StandFacts
 pub mod ReplaceFacts

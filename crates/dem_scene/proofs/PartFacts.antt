@@ -9,17 +9,17 @@ use Rattle.dem_model.specs.declared.fault.Spot.{Spot}
 use Rattle.dem_model.specs.declared.fault.Name.TheVariants as names
 use Rattle.dem_model.specs.declared.fault.SceneFault.{SceneFault}
 use Rattle.dem_model.specs.declared.fault.SceneFault.TheVariants.{Count}
-use Rattle.dem_model.specs.declared.limits.TheConstants.{MAX_VOXELS, MAX_STEPS, MAX_SPEED, MAX_SPIN, MAX_GRAVITY, MAX_MATERIALS, MAX_TEMPLATES, MAX_WALLS}
+use Rattle.dem_model.specs.declared.limits.TheConstants.{MAX_VOXELS, MAX_STEPS, MAX_SPEED, MAX_SPIN, MAX_GRAVITY, MAX_MATERIALS, MAX_TEMPLATES, MAX_WALLS, MAX_OFF}
 use Rattle.dem_model.specs.SceneValue.{SceneValue}
-use Rattle.dem_model.specs.Reading.{◌>>=◌, spot, if_so, required, from_to, at_most, check_object, number_at, count_of, each_from, list_of, list_at, list_or}
+use Rattle.dem_model.specs.Reading.{◌>>=◌, spot, if_so, required, from_to, at_most, check_object_in, number_at, count_of, each_from, list_of, list_at, list_or}
 use Rattle.dem_model.specs.ReadingVectors.{vector_of, vector_at, vector_or}
-use Rattle.dem_model.specs.ReadingKinds.{material_of, template_of, greatest_radius, wall_of}
-use Rattle.dem_model.specs.ReadingScene.{check_version, clumps_at, table_of}
+use Rattle.dem_model.specs.ReadingKinds.{material_of, template_of, greatest_radius, wall_of, off_of}
+use Rattle.dem_model.specs.ReadingScene.{is_later, check_version, motions_or, clumps_at, table_of}
 use Rattle.dem_scene.proofs.ReadFacts.{then_ok, ok_same, so_ok, vector_fits, PassesSmall}
 
 -- what the table reads, part by part
 pub record HasParts (d : Data) (s : SceneValue) : Type 0 where
-  pub known : check_object (spot names.Scene 0 0) d ≡ Ok tt
+  pub known : check_object_in (is_later d) (spot names.Scene 0 0) d ≡ Ok tt
   pub version : check_version d ≡ Ok tt
   pub size : Vec3
   pub box : vector_at (codes "box") (from_to 1 MAX_VOXELS) (spot names.Box 0 0) d ≡ Ok size
@@ -31,7 +31,9 @@ pub record HasParts (d : Data) (s : SceneValue) : Type 0 where
   pub materials : list_at (codes "materials") 1 MAX_MATERIALS (spot names.Materials 0 0) material_of d ≡ Ok s.materials
   pub templates : list_at (codes "templates") 1 MAX_TEMPLATES (spot names.Templates 0 0) (template_of (length s.materials)) d ≡ Ok s.templates
   pub walls : list_or (codes "walls") 0 MAX_WALLS (spot names.Walls 0 0) (wall_of (length s.materials) (greatest_radius s.templates)) d ≡ Ok s.walls
-  pub clumps : clumps_at s.templates d ≡ Ok s.clumps
+  pub motions : motions_or d ≡ Ok s.motions
+  pub off : list_or (codes "off") 0 MAX_OFF (spot names.Off 0 0) off_of d ≡ Ok s.off
+  pub clumps : clumps_at (is_later d) s.templates d ≡ Ok s.clumps
   pub nx : unsigned_abs size.x ≡ s.nx
   pub ny : unsigned_abs size.y ≡ s.ny
   pub nz : unsigned_abs size.z ≡ s.nz
@@ -40,7 +42,7 @@ pub record HasParts (d : Data) (s : SceneValue) : Type 0 where
 pub parts_of : (d : Data) (s : SceneValue) → table_of d ≡ Ok s → HasParts d s
 unfolding table_of
 parts_of d s e =
-    let known = then_ok (check_object (spot names.Scene 0 0) d) _ s e in
+    let known = then_ok (check_object_in (is_later d) (spot names.Scene 0 0) d) _ s e in
     let version = then_ok (check_version d) _ s known.2 in
     let size = then_ok (vector_at (codes "box") (from_to 1 MAX_VOXELS) (spot names.Box 0 0) d) _ s version.2 in
     let steps = then_ok (number_at (codes "steps") 0 MAX_STEPS (spot names.Steps 0 0) d) _ s size.2 in
@@ -51,7 +53,9 @@ parts_of d s e =
     let materials = then_ok (list_at (codes "materials") 1 MAX_MATERIALS (spot names.Materials 0 0) material_of d) _ s gravity.2 in
     let templates = then_ok (list_at (codes "templates") 1 MAX_TEMPLATES (spot names.Templates 0 0) (template_of (length materials.0)) d) _ s materials.2 in
     let walls = then_ok (list_or (codes "walls") 0 MAX_WALLS (spot names.Walls 0 0) (wall_of (length materials.0) (greatest_radius templates.0)) d) _ s templates.2 in
-    let clumps = then_ok (clumps_at templates.0 d) _ s walls.2 in
+    let motions = then_ok (motions_or d) _ s walls.2 in
+    let off = then_ok (list_or (codes "off") 0 MAX_OFF (spot names.Off 0 0) off_of d) _ s motions.2 in
+    let clumps = then_ok (clumps_at (is_later d) templates.0 d) _ s off.2 in
     let made : SceneValue = record {
       nx = unsigned_abs size.0.x;
       ny = unsigned_abs size.0.y;
@@ -65,6 +69,8 @@ parts_of d s e =
       templates = templates.0;
       walls = walls.0;
       clumps = clumps.0;
+      motions = motions.0;
+      off = off.0;
     } in
     let same : made ≡ s = ok_same made s clumps.2 in
     let parts : HasParts d made = record {
@@ -80,6 +86,8 @@ parts_of d s e =
       materials = materials.1;
       templates = templates.1;
       walls = walls.1;
+      motions = motions.1;
+      off = off.1;
       clumps = clumps.1;
       nx = refl;
       ny = refl;
@@ -95,7 +103,7 @@ then_gives r f x y e g = ap (λ q. q >>= f) e ∙ g
 pub table_from : (d : Data) (s : SceneValue) → HasParts d s → table_of d ≡ Ok s
 unfolding table_of
 table_from d s p =
-    then_gives (check_object (spot names.Scene 0 0) d) _ tt s p.known (
+    then_gives (check_object_in (is_later d) (spot names.Scene 0 0) d) _ tt s p.known (
     then_gives (check_version d) _ tt s p.version (
     then_gives (vector_at (codes "box") (from_to 1 MAX_VOXELS) (spot names.Box 0 0) d) _ p.size s p.box (
     then_gives (number_at (codes "steps") 0 MAX_STEPS (spot names.Steps 0 0) d) _ s.steps s p.steps (
@@ -106,8 +114,10 @@ table_from d s p =
     then_gives (list_at (codes "materials") 1 MAX_MATERIALS (spot names.Materials 0 0) material_of d) _ s.materials s p.materials (
     then_gives (list_at (codes "templates") 1 MAX_TEMPLATES (spot names.Templates 0 0) (template_of (length s.materials)) d) _ s.templates s p.templates (
     then_gives (list_or (codes "walls") 0 MAX_WALLS (spot names.Walls 0 0) (wall_of (length s.materials) (greatest_radius s.templates)) d) _ s.walls s p.walls (
-    then_gives (clumps_at s.templates d) _ s.clumps s p.clumps (
-    rw (p.nx, p.ny, p.nz) refl))))))))))))
+    then_gives (motions_or d) _ s.motions s p.motions (
+    then_gives (list_or (codes "off") 0 MAX_OFF (spot names.Off 0 0) off_of d) _ s.off s p.off (
+    then_gives (clumps_at (is_later d) s.templates d) _ s.clumps s p.clumps (
+    rw (p.nx, p.ny, p.nz) refl))))))))))))))
 
 -- ---- sizes
 

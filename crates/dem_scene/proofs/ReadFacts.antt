@@ -1,9 +1,10 @@
 -- Numbers, vectors and lists that were read have no fraction and short texts.
-use Rattle.std.proofs.Common.{◌≡◌, ℕ, suc, ◌+◌, ◌*◌, ◌^◌, ◌<◌, ◌≤◌, ℤ, pos, negsuc, Bool, true, false, cond, ◌&&◌, ◌⊎◌, List, [], ◌∷◌, map, length, Option, Some, None, Result, Ok, Err, ok_or, option_and_then, unsigned_abs, nat_lt, nat_le, bytes_eq, codes, decimal, refl, ap, ◌∙◌, subst, arith, inl, inr}
+use Rattle.std.proofs.Common.{◌≡◌, ℕ, suc, ◌+◌, ◌*◌, ◌^◌, ◌<◌, ◌≤◌, ℤ, pos, negsuc, Bool, true, false, cond, ◌&&◌, ◌||◌, ◌⊎◌, List, [], ◌∷◌, ◌++◌, map, length, Option, Some, None, Result, Ok, Err, ok_or, option_and_then, unsigned_abs, nat_lt, nat_le, bytes_eq, codes, decimal, refl, ap, ◌∙◌, subst, arith, inl, inr}
 use Rattle.std.specs.Prelude.{⊤}
-use Rattle.std.specs.List.{list_all}
-use Rattle.std.proofs.lemmas.Bool.{and_parts}
+use Rattle.std.specs.List.{list_all, list_any}
+use Rattle.std.proofs.lemmas.Bool.{and_parts, or_cases, or_left, or_right}
 use Rattle.std.proofs.lemmas.Bool.Decides.{nat_tests}
+use Rattle.std.proofs.lemmas.List.Folds.{list_any-append}
 use Rattle.std.proofs.lemmas.Fmt.{length-decimal-le}
 use Rattle.std.specs.Fmt.{signed_decimal}
 use Rattle.std.proofs.lemmas.Nat.{mul-le}
@@ -18,11 +19,12 @@ use Rattle.dem_model.specs.declared.fault.SceneFault.TheVariants.{Field, Unknown
 use Rattle.dem_model.specs.declared.shape.Axis.{Axis}
 use Rattle.dem_model.specs.declared.shape.Axis.TheVariants.{X, Y, Z}
 use Rattle.dem_model.specs.declared.limits.TheConstants.{MAX_DIRECTION}
-use Rattle.dem_model.specs.Reading.{◌>>=◌, unless, if_so, required, optional, is_among, names_in, check_object, whole, from_to, at_most, below, whole_of, number_of, number_at, number_or, index_of, index_at, count_of, each_from, list_of, list_at, list_or}
-use Rattle.dem_model.specs.ReadingNames.{names_of}
+use Rattle.dem_model.specs.Reading.{◌>>=◌, unless, if_so, required, optional, is_among, names_in, check_object, is_known_in, check_object_in, whole, from_to, at_most, below, whole_of, number_of, number_at, number_or, index_of, index_at, count_of, each_from, list_of, list_at, list_or}
+use Rattle.dem_model.specs.declared.fault.Name.{Name}
+use Rattle.dem_model.specs.ReadingNames.{names_of, later_names_of}
 use Rattle.dem_model.specs.ReadingVectors.{vector_of_three, three_of, three_at, each_is, vector_of, vector_at, zero_vector, vector_or, direction_of, direction_at}
 use Rattle.dem_model.specs.ReadingKinds.{axis_named, axis_at}
-use Rattle.dem_model.specs.ReadingScene.{is_first, version_of, check_version}
+use Rattle.dem_model.specs.ReadingScene.{is_version, version_of, check_version}
 use Rattle.dem_scene.proofs.OrderFacts.{IsOrdered, AreOrdered, IfThere, order_get}
 use Rattle.dem_scene.proofs.FitFacts.{Fits, Fits-more, AllFit, array_fits, Rooms, room_of, AreIn, object_fits}
 
@@ -69,7 +71,7 @@ there_required : {A : Type 0} (P : Data → Type 0) (at : Spot) (read : Data →
 there_required P at read None x t f e = tt
 there_required P at read (Some d) x t f e = f d t e
 
-there_optional : {A : Type 0} (P : Data → Type 0) (default : A) (read : Data → Result A SceneFault) (o : Option Data) (x : A) → IfThere IsOrdered o → ((d : Data) → IsOrdered d → read d ≡ Ok x → P d) → optional default read o ≡ Ok x → IfThere P o
+pub there_optional : {A : Type 0} (P : Data → Type 0) (default : A) (read : Data → Result A SceneFault) (o : Option Data) (x : A) → IfThere IsOrdered o → ((d : Data) → IsOrdered d → read d ≡ Ok x → P d) → optional default read o ≡ Ok x → IfThere P o
 there_optional P default read None x t f e = tt
 there_optional P default read (Some d) x t f e = f d t e
 
@@ -124,15 +126,22 @@ index_fits count at d n small e =
     let b = so_ok (Index at) (below count a.0) (unsigned_abs a.0) n a.2 in
     whole_fits d a.0 (some_ok (whole d) (Field at) a.0 a.1) (omega (arith, below_small count a.0 b.0, small))
 
-first_small : (z : ℤ) → is_first z ≡ true → unsigned_abs z < 2 ^ 63
-first_small (pos n) e = grind (arith, nat_tests)
-first_small (negsuc n) e = absurd cc
+version_small : (v : ℕ) (z : ℤ) → v < 2 ^ 63 → is_version v z ≡ true → unsigned_abs z < 2 ^ 63
+version_small v (pos n) h e = grind (arith, nat_tests)
+version_small v (negsuc n) h e = absurd cc
+
+either_small : (z : ℤ) → (is_version 1 z || is_version 2 z) ≡ true → unsigned_abs z < 2 ^ 63
+either_small z e =
+    elim (or_cases (is_version 1 z) (is_version 2 z) e) [
+      | inl one ↦ version_small 1 z (omega arith) one
+      | inr two ↦ version_small 2 z (omega arith) two
+    ]
 
 version_fits : (at : Spot) (d : Data) (u : ⊤) → version_of at d ≡ Ok u → Fits 20 d
 unfolding version_of whole_of
 version_fits at d u e =
-    let a = then_ok (ok_or (whole d) (Field at)) (λ z. unless Version (is_first z)) u e in
-    whole_fits d a.0 (some_ok (whole d) (Field at) a.0 a.1) (first_small a.0 (unless_ok Version (is_first a.0) u a.2))
+    let a = then_ok (ok_or (whole d) (Field at)) (λ z. unless Version (is_version 1 z || is_version 2 z)) u e in
+    whole_fits d a.0 (some_ok (whole d) (Field at) a.0 a.1) (either_small a.0 (unless_ok Version (is_version 1 a.0 || is_version 2 a.0) u a.2))
 
 -- ---- vectors
 
@@ -304,3 +313,35 @@ known_fits at rs (array ds) u same o e t = absurd cc
 known_fits at rs (object ms) u same o e t =
     let known = unless_ok (Unknown at) (list_all (is_among (names_of at.name)) (names_in ms)) u e in
     object_fits rs ms o (subst (λ ns. list_all (is_among ns) (names_in ms) ≡ true) same known) t
+
+both_hold : (a b : Bool) → a ≡ true → b ≡ true → (a && b) ≡ true
+both_hold true b p q = q
+both_hold false b p q = p
+
+all_weaker : (p q : List ℕ → Bool) → ((k : List ℕ) → p k ≡ true → q k ≡ true) → (ks : List (List ℕ)) → list_all p ks ≡ true → list_all q ks ≡ true
+all_weaker p q f [] e = refl
+all_weaker p q f (k ∷ ks) e =
+    let parts = and_parts (p k) (list_all p ks) e in
+    both_hold (q k) (list_all q ks) (f k parts.0) (all_weaker p q f ks parts.1)
+
+-- a name that is known in some version is one of those of both versions
+known_some : (later : Bool) (name : Name) (k : List ℕ) → is_known_in later name k ≡ true → is_among (names_of name ++ later_names_of name) k ≡ true
+unfolding is_known_in is_among
+known_some later name k e =
+    list_any-append (λ m. bytes_eq k m) (names_of name) (later_names_of name) ∙ elim (or_cases (is_among (names_of name) k) (later && is_among (later_names_of name) k) e) [
+      | inl h ↦ or_left (list_any (λ m. bytes_eq k m) (names_of name)) (list_any (λ m. bytes_eq k m) (later_names_of name)) h
+      | inr h ↦ or_right (list_any (λ m. bytes_eq k m) (names_of name)) (list_any (λ m. bytes_eq k m) (later_names_of name)) (and_parts later (is_among (later_names_of name) k) h).1
+    ]
+
+-- an object of a place, each of whose names, in either version, has a value that fits
+pub known_fits_in : (later : Bool) (at : Spot) (rs : Rooms) (d : Data) (u : ⊤) → (names_of at.name ++ later_names_of at.name) ≡ map (λ r. r.0) rs → IsOrdered d → check_object_in later at d ≡ Ok u → AreIn rs d → Fits (2 + room_of rs) d
+unfolding check_object_in
+known_fits_in later at rs null u same o e t = absurd cc
+known_fits_in later at rs (boolean b) u same o e t = absurd cc
+known_fits_in later at rs (number n) u same o e t = absurd cc
+known_fits_in later at rs (string s) u same o e t = absurd cc
+known_fits_in later at rs (array ds) u same o e t = absurd cc
+known_fits_in later at rs (object ms) u same o e t =
+    let known = unless_ok (Unknown at) (list_all (is_known_in later at.name) (names_in ms)) u e in
+    let among = all_weaker (is_known_in later at.name) (is_among (names_of at.name ++ later_names_of at.name)) (known_some later at.name) (names_in ms) known in
+    object_fits rs ms o (subst (λ ns. list_all (is_among ns) (names_in ms) ≡ true) same among) t

@@ -1,5 +1,5 @@
 -- A scene text's tree with stands as its clumps: the scene that it is, how long its text is, how deep it nests.
-use Rattle.std.proofs.Common.{◌≡◌, ℕ, ◌^◌, ◌<◌, ◌≤◌, Bool, true, false, cond, ◌&&◌, List, [], ◌∷◌, map, length, Option, Some, None, Result, Ok, Err, IfOk, IsOk, codes, bytes_eq, nat_lt, nat_le, Ordering, Less, Equal, Greater, nat_cmp, refl, sym, ap, ◌∙◌, subst, true≢false, arith}
+use Rattle.std.proofs.Common.{◌≡◌, ℕ, ◌^◌, ◌<◌, ◌≤◌, Bool, true, false, cond, ◌&&◌, List, [], ◌∷◌, map, length, Option, Some, None, Result, Ok, Err, IfOk, IsOk, option_and_then, codes, bytes_eq, nat_lt, nat_le, Ordering, Less, Equal, Greater, nat_cmp, refl, sym, ap, ◌∙◌, subst, true≢false, arith}
 use Rattle.std.specs.List.{list_all}
 use Rattle.std.specs.Str.{is_utf8}
 use Rattle.std.specs.Ordering.{match_ordering}
@@ -17,20 +17,21 @@ use Rattle.dem_model.specs.declared.fault.Name.TheVariants as names
 use Rattle.dem_model.specs.declared.fault.SceneFault.{SceneFault}
 use Rattle.dem_model.specs.declared.fault.SceneFault.TheVariants.{TooLong, NotJson, Unknown, Count}
 use Rattle.dem_model.specs.declared.state.Stand.{Stand}
-use Rattle.dem_model.specs.declared.limits.TheConstants.{MAX_TEXT, MAX_VOXELS, MAX_STEPS, MAX_SPEED, MAX_SPIN, MAX_GRAVITY, MAX_MATERIALS, MAX_TEMPLATES, MAX_WALLS, MAX_CLUMPS}
+use Rattle.dem_model.specs.declared.limits.TheConstants.{MAX_TEXT, MAX_VOXELS, MAX_STEPS, MAX_SPEED, MAX_SPIN, MAX_GRAVITY, MAX_MATERIALS, MAX_TEMPLATES, MAX_WALLS, MAX_CLUMPS, MAX_OFF}
 use Rattle.dem_model.specs.SceneValue.{SceneValue}
 use Rattle.dem_model.specs.Spheres.{spheres_of}
 use Rattle.dem_model.specs.Stands.{standing, with_stands, CanStand}
-use Rattle.dem_model.specs.Reading.{◌>>=◌, spot, unless, if_so, required, optional, is_among, names_in, from_to, at_most, check_object, number_at, count_of, list_at, list_or}
-use Rattle.dem_model.specs.ReadingNames.{names_of}
+use Rattle.dem_model.specs.Reading.{◌>>=◌, spot, unless, if_so, required, optional, is_among, names_in, from_to, at_most, whole, is_known_in, check_object_in, number_at, count_of, list_at, list_or}
+use Rattle.dem_model.specs.ReadingNames.{names_of, later_names_of}
 use Rattle.dem_model.specs.ReadingVectors.{vector_at, vector_or}
-use Rattle.dem_model.specs.ReadingKinds.{material_of, template_of, greatest_radius, wall_of, clumps_from}
-use Rattle.dem_model.specs.ReadingScene.{check_version, clumps_of, clumps_at, table_of, check_clumps, scene_of, tree_of, json_of, scene_from}
+use Rattle.dem_model.specs.ReadingKinds.{material_of, template_of, greatest_radius, wall_of, off_of, clumps_from}
+use Rattle.dem_model.specs.ReadingScene.{is_two, is_later, check_version, motions_or, clumps_of, clumps_at, table_of, check_clumps, scene_of, tree_of, json_of, scene_from}
 use Rattle.dem_scene.specs.Stands.{stand_items, with_clumps_in, with_clumps_of, IsWithClumps, IsTextOf}
 use Rattle.dem_scene.proofs.OrderFacts.{IsOrdered, AreOrdered, IfThere, order_put, order_read}
 use Rattle.dem_scene.proofs.FitFacts.{Fits, Fits-more, Rooms}
-use Rattle.dem_scene.proofs.ReadFacts.{then_ok, unless_ok, ok_same, from_to_small, from_to_passes, at_most_passes, number_at_fits, vector_at_fits, vector_or_fits, version_at_fits, list_at_fits, list_or_fits, known_fits}
+use Rattle.dem_scene.proofs.ReadFacts.{then_ok, unless_ok, ok_same, from_to_small, from_to_passes, at_most_passes, number_at_fits, vector_at_fits, vector_or_fits, version_at_fits, list_at_fits, list_or_fits, known_fits_in}
 use Rattle.dem_scene.proofs.KindFacts.{material_fits, template_fits, wall_fits}
+use Rattle.dem_scene.proofs.MotionFits.{motions_or_fits, off_fits}
 use Rattle.dem_scene.proofs.PartFacts.{HasParts, parts_of, table_from, then_gives, vector_passes, list_at_count}
 use Rattle.dem_scene.proofs.StandFacts.{IsBoxed, stands_read, stand_count, stands_checked, list_fits, list_shallow}
 
@@ -78,25 +79,33 @@ module _ (stands : List Stand) (ms : Members) where
   unfolding new
   clumps_under = get_member-put (codes "clumps") (array (stand_items stands)) ms
 
-  new_known : check_object (spot names.Scene 0 0) old ≡ Ok tt → check_object (spot names.Scene 0 0) new ≡ Ok tt
-  unfolding old new check_object is_among names_of
-  new_known e =
-      let known = unless_ok (Unknown (spot names.Scene 0 0)) (list_all (is_among (names_of names.Scene)) (names_in ms)) tt e in
-      ap (unless (Unknown (spot names.Scene 0 0))) (names_put (is_among (names_of names.Scene)) (codes "clumps") (array (stand_items stands)) ms refl known)
+  -- it is of the same version
+  same_later : is_later new ≡ is_later old
+  unfolding is_later
+  same_later = ap (λ o. is_two (option_and_then whole o)) (same_under (codes "version") refl)
 
-  new_clumps : (s : SceneValue) → IsBoxed s → length s.templates < 2 ^ 63 → CanStand s stands → clumps_at s.templates new ≡ Ok (map standing stands)
+  known_in : (later : Bool) → check_object_in later (spot names.Scene 0 0) old ≡ Ok tt → check_object_in later (spot names.Scene 0 0) new ≡ Ok tt
+  unfolding old new check_object_in is_known_in is_among names_of
+  known_in later e =
+      let known = unless_ok (Unknown (spot names.Scene 0 0)) (list_all (is_known_in later names.Scene) (names_in ms)) tt e in
+      ap (unless (Unknown (spot names.Scene 0 0))) (names_put (is_known_in later names.Scene) (codes "clumps") (array (stand_items stands)) ms refl known)
+
+  new_known : check_object_in (is_later old) (spot names.Scene 0 0) old ≡ Ok tt → check_object_in (is_later new) (spot names.Scene 0 0) new ≡ Ok tt
+  new_known e = ap (λ later. check_object_in later (spot names.Scene 0 0) new) same_later ∙ known_in (is_later old) e
+
+  new_clumps : (s : SceneValue) → IsBoxed s → length s.templates < 2 ^ 63 → CanStand s stands → clumps_at (is_later new) s.templates new ≡ Ok (map standing stands)
   unfolding clumps_at clumps_of spheres_of
   new_clumps s b few h =
       let at = spot names.Clumps 0 0 in
       let low : nat_le 1 (count_of (stand_items stands)) ≡ true = rw (stand_count stands) (let le = h.count.low_le in grind (arith, nat_tests)) in
       let high : nat_le (count_of (stand_items stands)) MAX_CLUMPS ≡ true = rw (stand_count stands) (let le = h.count.le_high in grind (arith, nat_tests)) in
-      ap (required at (clumps_of s.templates at)) clumps_under
-      ∙ then_gives (if_so (Count at) (nat_le 1 (count_of (stand_items stands)) && nat_le (count_of (stand_items stands)) MAX_CLUMPS) (stand_items stands)) (clumps_from s.templates 0 0) (stand_items stands) (map standing stands)
+      ap (required at (clumps_of (is_later new) s.templates at)) clumps_under
+      ∙ then_gives (if_so (Count at) (nat_le 1 (count_of (stand_items stands)) && nat_le (count_of (stand_items stands)) MAX_CLUMPS) (stand_items stands)) (clumps_from (is_later new) s.templates 0 0) (stand_items stands) (map standing stands)
       (ap (λ t. if_so (Count at) t (stand_items stands)) (both _ _ low high))
-      (stands_read s 0 0 0 stands b few h.clumps (omega (arith, h.spheres)))
+      (stands_read (is_later new) s 0 0 0 stands b few h.clumps (omega (arith, h.spheres)))
 
   new_parts : (s : SceneValue) → IsBoxed s → length s.templates < 2 ^ 63 → CanStand s stands → HasParts old s → HasParts new (with_stands s stands)
-  unfolding number_at vector_at vector_or list_at list_or check_version
+  unfolding number_at vector_at vector_or list_at list_or check_version motions_or
   new_parts s b few h p = record {
     known = new_known p.known;
     version = ap (required _ _) (same_under (codes "version") refl) ∙ p.version;
@@ -110,6 +119,8 @@ module _ (stands : List Stand) (ms : Members) where
     materials = ap (required _ _) (same_under (codes "materials") refl) ∙ p.materials;
     templates = ap (required _ _) (same_under (codes "templates") refl) ∙ p.templates;
     walls = ap (optional _ _) (same_under (codes "walls") refl) ∙ p.walls;
+    motions = ap (optional _ _) (same_under (codes "families") refl) ∙ p.motions;
+    off = ap (optional _ _) (same_under (codes "off") refl) ∙ p.off;
     clumps = new_clumps s b few h;
     nx = p.nx;
     ny = p.ny;
@@ -162,12 +173,12 @@ items_ordered [] = tt
 items_ordered (x ∷ xs) = (((refl, tt), (tt, (tt, (tt, tt))), (tt, tt, tt)), items_ordered xs)
 
 scene_rooms : Rooms
-scene_rooms = (codes "version", 20) ∷ (codes "box", 65) ∷ (codes "steps", 20) ∷ (codes "every", 20) ∷ (codes "speed", 20) ∷ (codes "spin", 20) ∷ (codes "gravity", 65) ∷ (codes "materials", 8514) ∷ (codes "templates", 546818) ∷ (codes "walls", 19522) ∷ (codes "clumps", 1605634) ∷ []
+scene_rooms = (codes "version", 20) ∷ (codes "box", 65) ∷ (codes "steps", 20) ∷ (codes "every", 20) ∷ (codes "speed", 20) ∷ (codes "spin", 20) ∷ (codes "gravity", 65) ∷ (codes "materials", 10178) ∷ (codes "templates", 546818) ∷ (codes "walls", 19522) ∷ (codes "clumps", 1605634) ∷ (codes "families", 2706) ∷ (codes "off", 6122) ∷ []
 
-parts_fit : (d : Data) (s : SceneValue) → length s.materials < 2 ^ 63 → IsOrdered d → HasParts d s → IfThere (Fits 1605634) (get (codes "clumps") d) → Fits 2180829 d
-unfolding scene_rooms names_of escape_byte
+parts_fit : (d : Data) (s : SceneValue) → length s.materials < 2 ^ 63 → IsOrdered d → HasParts d s → IfThere (Fits 1605634) (get (codes "clumps") d) → Fits 2191340 d
+unfolding scene_rooms names_of later_names_of escape_byte
 parts_fit d s few o p clumps =
-    known_fits (spot names.Scene 0 0) scene_rooms d tt refl o p.known (
+    known_fits_in (is_later d) (spot names.Scene 0 0) scene_rooms d tt refl o p.known (
       version_at_fits d tt o p.version,
       (
         vector_at_fits (codes "box") (from_to 1 MAX_VOXELS) (spot names.Box 0 0) d p.size (from_to_passes 1 MAX_VOXELS (omega arith)) o p.box,
@@ -182,14 +193,20 @@ parts_fit d s few o p clumps =
                 (
                   vector_or_fits (codes "gravity") (at_most MAX_GRAVITY) (spot names.Gravity 0 0) d s.gravity (at_most_passes MAX_GRAVITY (omega arith)) o p.gravity,
                   (
-                    list_at_fits 132 (codes "materials") 1 MAX_MATERIALS (spot names.Materials 0 0) material_of d s.materials material_fits o p.materials,
+                    list_at_fits 158 (codes "materials") 1 MAX_MATERIALS (spot names.Materials 0 0) material_of d s.materials material_fits o p.materials,
                     (
                       list_at_fits 2135 (codes "templates") 1 MAX_TEMPLATES (spot names.Templates 0 0) (template_of (length s.materials)) d s.templates (λ i x t. template_fits (length s.materials) i x t few) o p.templates,
                       (
                         list_or_fits 304 (codes "walls") 0 MAX_WALLS (spot names.Walls 0 0) (wall_of (length s.materials) (greatest_radius s.templates)) d s.walls (λ i x w. wall_fits (length s.materials) (greatest_radius s.templates) i x w few) o p.walls,
                         (
                           clumps,
-                          tt,
+                          (
+                            motions_or_fits d s.motions o p.motions,
+                            (
+                              list_or_fits 44 (codes "off") 0 MAX_OFF (spot names.Off 0 0) off_of d s.off off_fits o p.off,
+                              tt,
+                            ),
+                          ),
                         ),
                       ),
                     ),
@@ -220,13 +237,13 @@ members_replaced stands s ms o deep e h =
     let list = list_fits s stands b few h.count.le_high h.clumps in
     record {
       scene = scene_new stands ms s h q;
-      fits = Fits-more 2180829 (2 ^ 22) (new stands ms) (omega arith)
+      fits = Fits-more 2191340 (2 ^ 22) (new stands ms) (omega arith)
           (parts_fit (new stands ms) (with_stands s stands) (few_materials (object ms) s p) (new_ordered stands ms (items_ordered stands) o) q (subst (IfThere (Fits 1605634)) (sym (clumps_under stands ms)) list));
       shallow = new_depth stands ms deep;
     }
 
 tree_replaced : (stands : List Stand) (s : SceneValue) (d : Data) → IsOrdered d → depth d ≤ max_depth → scene_of d ≡ Ok s → CanStand s stands → IsReplaced stands s d
-unfolding scene_of table_of check_object
+unfolding scene_of table_of check_object_in
 tree_replaced stands s null o deep e h = absurd cc
 tree_replaced stands s (boolean b) o deep e h = absurd cc
 tree_replaced stands s (number n) o deep e h = absurd cc

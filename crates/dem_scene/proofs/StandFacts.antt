@@ -22,7 +22,7 @@ use Rattle.dem_model.specs.Position.{in_voxels, in_box}
 use Rattle.dem_model.specs.Spheres.{balls_of, sphere_of, spheres_of_clump, spheres_from, center_of}
 use Rattle.dem_model.specs.Sound.{IsClump}
 use Rattle.dem_model.specs.Stands.{standing_body, standing, with_stands}
-use Rattle.dem_model.specs.Reading.{spot, unless, if_so, is_among, from_to, at_most, below, check_object, whole, whole_of, index_of, index_at, count_of}
+use Rattle.dem_model.specs.Reading.{spot, unless, if_so, is_among, from_to, at_most, below, is_known_in, check_object_in, whole, whole_of, number_or, index_of, index_at, count_of}
 use Rattle.dem_model.specs.ReadingNames.{names_of}
 use Rattle.dem_model.specs.ReadingVectors.{vector_of_three, three_of, each_is, three_at, vector_of, vector_at, vector_or, quaternion_or}
 use Rattle.dem_model.specs.ReadingKinds.{ball_count, check_total, clump_of, clumps_from}
@@ -86,15 +86,15 @@ vector_back at v h =
     let each : each_is (from_to 0 (MAX_POINT - 1)) v ≡ true = all_true _ _ _ h.x h.y h.z in
     then_gives (ok_or (option_and_then three_of (as_array (vector_data v))) (Field at)) _ v v (ap (λ o. ok_or o (Field at)) three) (ap (λ b. if_so (Range at) b v) each)
 
-stand_known : (i : ℕ) (x : Stand) → check_object (spot names.Clumps i 0) (stand_data x) ≡ Ok tt
-unfolding check_object is_among names_of
-stand_known i x = refl
+stand_known : (later : Bool) (i : ℕ) (x : Stand) → check_object_in later (spot names.Clumps i 0) (stand_data x) ≡ Ok tt
+unfolding check_object_in is_known_in is_among names_of
+stand_known later i x = refl
 
-stand_read : (templates : List Template) (before i : ℕ) (x : Stand) → length templates < 2 ^ 63 → x.t < length templates → IsPlace x.p → before + ball_count templates x.t ≤ MAX_SPHERES → clump_of templates before i (stand_data x) ≡ Ok (standing x)
-unfolding clump_of index_at vector_at vector_or quaternion_or check_total
-stand_read templates before i x few there place room =
+stand_read : (later : Bool) (templates : List Template) (before i : ℕ) (x : Stand) → length templates < 2 ^ 63 → x.t < length templates → IsPlace x.p → before + ball_count templates x.t ≤ MAX_SPHERES → clump_of later templates before i (stand_data x) ≡ Ok (standing x)
+unfolding clump_of index_at number_or vector_at vector_or quaternion_or check_total
+stand_read later templates before i x few there place room =
     let total : nat_le (before + ball_count templates x.t) MAX_SPHERES ≡ true = grind (arith, nat_tests) in
-    then_gives (check_object (spot names.Clumps i 0) (stand_data x)) _ tt (standing x) (stand_known i x) (
+    then_gives (check_object_in later (spot names.Clumps i 0) (stand_data x)) _ tt (standing x) (stand_known later i x) (
     then_gives (index_at (codes "t") (length templates) (spot names.ClumpsT i 0) (stand_data x)) _ x.t (standing x) (index_back (length templates) x.t (spot names.ClumpsT i 0) there few) (
     then_gives (vector_at (codes "p") (from_to 0 (MAX_POINT - 1)) (spot names.ClumpsP i 0) (stand_data x)) _ x.p (standing x) (vector_back (spot names.ClumpsP i 0) x.p place) (
     then_gives (check_total (before + ball_count templates x.t) (spot names.ClumpsTotal i 0)) (λ _. Ok (standing x)) tt (standing x) (ap (unless (Count (spot names.ClumpsTotal i 0))) total) refl)))
@@ -108,17 +108,17 @@ stand_in : (s : SceneValue) (x : Stand) → IsBoxed s → IsClump s (standing x)
 stand_in s x b h = record { t = h.t; place = place_in s x.p b h.body.body.p }
 
 -- stands are read as their clumps
-pub stands_read : (s : SceneValue) (before k i : ℕ) (stands : List Stand) → IsBoxed s → length s.templates < 2 ^ 63 → All (λ (x : Stand). IsClump s (standing x)) stands
-    → before + length (spheres_from s.templates k (map standing stands)) ≤ MAX_SPHERES → clumps_from s.templates before i (stand_items stands) ≡ Ok (map standing stands)
+pub stands_read : (later : Bool) (s : SceneValue) (before k i : ℕ) (stands : List Stand) → IsBoxed s → length s.templates < 2 ^ 63 → All (λ (x : Stand). IsClump s (standing x)) stands
+    → before + length (spheres_from s.templates k (map standing stands)) ≤ MAX_SPHERES → clumps_from later s.templates before i (stand_items stands) ≡ Ok (map standing stands)
 unfolding clumps_from spheres_from spheres_of_clump ball_count
-stands_read s before k i [] b few h room = refl
-stands_read s before k i (x ∷ xs) b few h room =
+stands_read later s before k i [] b few h room = refl
+stands_read later s before k i (x ∷ xs) b few h room =
     let x_in = stand_in s x b (All-head (λ (y : Stand). IsClump s (standing y)) x xs h) in
     let own = length-map (balls_of s.templates x.t) (sphere_of k) in
     let both = length-append (map (sphere_of k) (balls_of s.templates x.t)) (spheres_from s.templates (k + 1) (map standing xs)) in
-    then_gives (clump_of s.templates before i (stand_data x)) _ (standing x) (standing x ∷ map standing xs) (stand_read s.templates before i x few x_in.t x_in.place (omega (arith, room, own, both))) (
-    then_gives (clumps_from s.templates (before + ball_count s.templates x.t) (i + 1) (stand_items xs)) _ (map standing xs) (standing x ∷ map standing xs)
-    (stands_read s (before + ball_count s.templates x.t) (k + 1) (i + 1) xs b few (All-tail (λ (y : Stand). IsClump s (standing y)) x xs h) (omega (arith, room, own, both))) refl)
+    then_gives (clump_of later s.templates before i (stand_data x)) _ (standing x) (standing x ∷ map standing xs) (stand_read later s.templates before i x few x_in.t x_in.place (omega (arith, room, own, both))) (
+    then_gives (clumps_from later s.templates (before + ball_count s.templates x.t) (i + 1) (stand_items xs)) _ (map standing xs) (standing x ∷ map standing xs)
+    (stands_read later s (before + ball_count s.templates x.t) (k + 1) (i + 1) xs b few (All-tail (λ (y : Stand). IsClump s (standing y)) x xs h) (omega (arith, room, own, both))) refl)
 
 -- as many objects as stands
 pub stand_count : (stands : List Stand) → count_of (stand_items stands) ≡ length stands

@@ -11,7 +11,7 @@ use Rattle.dem_model.specs.declared.fault.SceneFault.TheVariants.{Field, Range, 
 use Rattle.dem_model.specs.declared.family.Motion.{Motion}
 use Rattle.dem_model.specs.declared.family.Off.{Off}
 use Rattle.dem_model.specs.declared.limits.TheConstants.{MAX_SPEED, MAX_SPIN, MAX_FAMILY, MAX_MOTIONS}
-use Rattle.dem_model.specs.Reading.{◌>>=◌, spot, if_so, whole, from_to, at_most, check_object, number_at, count_of, counted}
+use Rattle.dem_model.specs.Reading.{◌>>=◌, spot, if_so, whole, from_to, at_most, check_object, number_at, count_of}
 use Rattle.dem_model.specs.ReadingNames.{names_of}
 use Rattle.dem_model.specs.ReadingVectors.{vector_at}
 use Rattle.dem_model.specs.ReadingKinds.{motion_of, motions_from, pair_of_two, two_of, are_families, two_at, off_of}

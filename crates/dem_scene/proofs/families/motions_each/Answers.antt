@@ -1,10 +1,10 @@
-use Rattle.std.proofs.Common.{◌≡◌, ◌+◌, ◌++◌, ◌∷◌, [], length, ap, sym, ◌∙◌, refl, subst, arith}
+use Rattle.std.proofs.Common.{◌≡◌, ◌+◌, ◌++◌, ◌∷◌, [], length, ap, sym, ◌∙◌, refl, arith}
 use Rattle.std.proofs.lemmas.List.{length_push}
 use Rattle.std.proofs.lemmas.List.Elements.{All-nil, All-push}
 use Rattle.std.proofs.lemmas.Result.{err_from_is_err_and}
 use Rattle.dem_model.specs.Sound.{IsMotion}
 use Rattle.dem_scene.proofs.GivesFacts.{fails_from}
-use Rattle.dem_scene.proofs.FamilyFacts.{motions_rest, motions_start, motions_go_on, motions_end, motions_done, AscendTo, ascend_more, ascend_all}
+use Rattle.dem_scene.proofs.FamilyFacts.{motions_rest, motions_start, motions_go_on, motions_end, motions_done, ascend_more, ascend_all}
 use Rattle.dem_scene.proofs.families.motions_each.Goals as goal
 
 pub loop-i-init : goal.loop-i-init

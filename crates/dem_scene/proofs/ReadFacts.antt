@@ -13,6 +13,7 @@ use Rattle.json.specs.Print.{quoted, escape_byte}
 use Rattle.serde_json.specs.Data.{unsigned, negative, float, Data, null, boolean, number, string, array, object, Items, no_items, item}
 use Rattle.serde_json.specs.Find.{get, as_array, as_str}
 use Rattle.dem_num.specs.declared.vector.Vec3.{Vec3}
+use Rattle.dem_model.specs.declared.fault.Name.{Name}
 use Rattle.dem_model.specs.declared.fault.Spot.{Spot}
 use Rattle.dem_model.specs.declared.fault.SceneFault.{SceneFault}
 use Rattle.dem_model.specs.declared.fault.SceneFault.TheVariants.{Field, Unknown, Range, Index, Count, Version}
@@ -20,7 +21,6 @@ use Rattle.dem_model.specs.declared.shape.Axis.{Axis}
 use Rattle.dem_model.specs.declared.shape.Axis.TheVariants.{X, Y, Z}
 use Rattle.dem_model.specs.declared.limits.TheConstants.{MAX_DIRECTION}
 use Rattle.dem_model.specs.Reading.{◌>>=◌, unless, if_so, required, optional, is_among, names_in, check_object, is_known_in, check_object_in, whole, from_to, at_most, below, whole_of, number_of, number_at, number_or, index_of, index_at, count_of, each_from, list_of, list_at, list_or}
-use Rattle.dem_model.specs.declared.fault.Name.{Name}
 use Rattle.dem_model.specs.ReadingNames.{names_of, later_names_of}
 use Rattle.dem_model.specs.ReadingVectors.{vector_of_three, three_of, three_at, each_is, vector_of, vector_at, zero_vector, vector_or, direction_of, direction_at}
 use Rattle.dem_model.specs.ReadingKinds.{axis_named, axis_at}

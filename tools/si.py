@@ -134,7 +134,7 @@ def material_of(units, grain):
         "bt": damping,
         "mu": share(grain.friction, "friction"),
     }
-    return {**found, "mr": share(grain.rolling, "rolling friction")} if grain.rolling else found
+    return {**found, "mr": share(grain.rolling, "rolling resistance")} if grain.rolling else found
 
 
 def sphere_mass(radius, density):

@@ -1,5 +1,5 @@
--- What a table of spheres says at a place.
-use Rattle.std.proofs.Common.{◌≡◌, ℕ, ◌<◌, ◌≤◌, List, length, get_or, map, sym, ap, ◌∙◌, arith, subst, [], ◌∷◌, ◌++◌, ◌+◌, take, Some}
+-- What the tables of spheres and of walls say at a place.
+use Rattle.std.proofs.Common.{◌≡◌, ℕ, ◌<◌, ◌≤◌, List, length, get_or, map, sym, ap, ◌∙◌, arith, subst, [], ◌∷◌, ◌++◌, ◌+◌, ◌-◌, ◌^◌, take, Some}
 use Rattle.std.specs.Prelude.{slice_get}
 use Rattle.std.specs.Option.{option_map_or}
 use Rattle.dem_model.specs.declared.shape.Template.{Template}
@@ -7,13 +7,21 @@ use Rattle.std.proofs.lemmas.Option.{slice_get_within, get_or_from_slice_get}
 use Rattle.std.proofs.lemmas.List.{length-map, get_or-map, take_more, take_all, length-take-le, map-append}
 use Rattle.dem_model.specs.SceneValue.{SceneValue}
 use Rattle.dem_model.specs.Spheres.{spheres_of, spheres_from, spheres_of_clump, sphere_of, balls_of}
-use Rattle.dem_model.specs.Pairs.{sphere_at, sphere_count, no_sphere}
+use Rattle.dem_model.specs.Pairs.{sphere_at, sphere_count, limit_of, wall_at, no_sphere, no_wall}
 use Rattle.dem_model.specs.Sound.{IsSound}
 use Rattle.dem_model.specs.declared.state.Clump.{Clump}
 use Rattle.dem_model.proofs.SphereFacts.{spheres_from-push}
 use Rattle.dem_model.specs.declared.limits.TheConstants.{MAX_SPHERES}
 use Rattle.dem_shape.specs.declared.entry.Entry.{Entry}
-use Rattle.dem_shape.specs.Table.{table_entry_of, IsTable}
+use Rattle.dem_num.specs.declared.vector.Vec3.{Vec3}
+use Rattle.dem_num.specs.Vectors.{widened, Within}
+use Rattle.std.proofs.lemmas.List.Elements.{All-push}
+use Rattle.dem_model.specs.Sound.{IsForm}
+use Rattle.dem_model.specs.declared.shape.Form.{Form}
+use Rattle.dem_model.specs.declared.shape.Form.TheVariants.{Plane, Cylinder}
+use Rattle.dem_model.specs.declared.shape.Wall.{Wall}
+use Rattle.dem_wall.specs.Normal.{wall_normal_of, HasDirection}
+use Rattle.dem_shape.specs.Table.{table_entry_of, IsTable, AreNormals}
 
 -- there is an entry for each sphere
 pub table_length : (s : SceneValue) (es : List Entry) → IsTable s es → length es ≡ sphere_count s
@@ -63,3 +71,43 @@ pub spheres_of_template : (s : SceneValue) (k t : ℕ) (x : Template) → slice_
     spheres_of_clump s.templates k t ≡ map (sphere_of k) x.balls
 unfolding spheres_of_clump balls_of
 spheres_of_template s k t x at = ap (λ o. map (sphere_of k) (option_map_or (λ (y : Template). y.balls) o [])) at
+
+-- ---- walls
+
+-- a form within its ranges has a direction, if it is a plane
+pub form_direction : (templates : List Template) (form : Form) → IsForm templates form → HasDirection form
+form_direction templates (Plane at dir) h = (h.1, h.2)
+form_direction templates (Cylinder axis at r) h = tt
+
+-- a wall of a scene has a direction, if it is a plane
+pub wall_direction : (s : SceneValue) (i : ℕ) (w : Wall) → IsSound s → slice_get s.walls i ≡ Some w → HasDirection w.form
+wall_direction s i w sound at =
+    subst (λ (x : Wall). HasDirection x.form) (get_or_from_slice_get s.walls i w w at)
+    (form_direction s.templates _ (sound.walls i w (slice_get_within s.walls i w at)).form)
+
+-- the normals go on with that of one more wall
+pub normals_more : (walls : List Wall) (i : ℕ) (w : Wall) (ns : List Vec3) (n : Vec3) → i < length walls →
+    AreNormals (take i walls) ns → n ≡ wall_normal_of (get_or walls i w) → Within (widened n) (2 ^ 30) → AreNormals (take (i + 1) walls) (ns ++ n ∷ [])
+normals_more walls i w ns n lt before e small = record {
+  each =
+      ap (λ x. ns ++ x ∷ []) e
+      ∙ ap (λ xs. xs ++ wall_normal_of (get_or walls i w) ∷ []) before.each
+      ∙ sym (map-append wall_normal_of (take i walls) (get_or walls i w ∷ []))
+      ∙ ap (map wall_normal_of) (sym (take_more walls i w lt));
+  small = All-push (λ (x : Vec3). Within (widened x) (2 ^ 30)) ns n before.small small;
+}
+
+-- the normal at a place is that of its wall
+pub normal_at : (s : SceneValue) (ns : List Vec3) (b : ℕ) (d : Vec3) → AreNormals s.walls ns → b - sphere_count s < length s.walls →
+    get_or ns (b - sphere_count s) d ≡ wall_normal_of (wall_at s b)
+unfolding wall_at
+normal_at s ns b d are lt = ap (λ xs. get_or xs (b - sphere_count s) d) are.each ∙ get_or-map wall_normal_of s.walls (b - sphere_count s) no_wall d lt
+
+-- there is a normal for each wall
+pub normal_count : (walls : List Wall) (ns : List Vec3) → AreNormals walls ns → length ns ≡ length walls
+normal_count walls ns are = ap length are.each ∙ length-map walls wall_normal_of
+
+-- a number after those of the spheres is that of a wall
+pub wall_there : (s : SceneValue) (b : ℕ) → sphere_count s ≤ b → b < limit_of s → b - sphere_count s < length s.walls
+unfolding limit_of
+wall_there s b later there = omega (arith, later, there)

@@ -1,6 +1,7 @@
--- What the table of spheres keeps of each.
-use Rattle.std.specs.Prelude.{◌≡◌, List, map}
-use Rattle.dem_num.specs.Vectors.{widened}
+-- What the tables keep of each sphere and of each wall.
+use Rattle.std.specs.Prelude.{◌≡◌, ◌^◌, List, All, map}
+use Rattle.dem_num.specs.declared.vector.Vec3.{Vec3}
+use Rattle.dem_num.specs.Vectors.{widened, Within}
 use Rattle.dem_num.specs.Rotations.{arm_of}
 use Rattle.dem_model.specs.SceneValue.{SceneValue}
 use Rattle.dem_model.specs.Spheres.{Sphere, spheres_of}
@@ -8,6 +9,8 @@ use Rattle.dem_model.specs.Sound.{IsSound}
 use Rattle.dem_model.specs.Motion.{per_step_of}
 use Rattle.dem_model.specs.Families.{family_of}
 use Rattle.dem_shape.specs.Offs.{offs_of}
+use Rattle.dem_model.specs.declared.shape.Wall.{Wall}
+use Rattle.dem_wall.specs.Normal.{wall_normal_of}
 use Rattle.dem_shape.specs.declared.entry.Entry.{Entry}
 
 -- a sphere's clump, what the template says of it, its arm, its movement bound, its family and the families that are off with that
@@ -25,3 +28,13 @@ table_entry_of s x = record {
 pub record IsTable (s : SceneValue) (entries : List Entry) : Type 0 where
   pub each : entries ≡ map (table_entry_of s) (spheres_of s)
   pub sound : IsSound s
+
+-- there is a unit normal for each wall, and none is too great
+pub record AreNormals (walls : List Wall) (normals : List Vec3) : Type 0 where
+  pub each : normals ≡ map wall_normal_of walls
+  pub small : All (λ n. Within (widened n) (2 ^ 30)) normals
+
+-- the spheres and the walls of a scene stand in their tables
+pub record AreTables (s : SceneValue) (entries : List Entry) (normals : List Vec3) : Type 0 where
+  pub spheres : IsTable s entries
+  pub walls : AreNormals s.walls normals

@@ -2,20 +2,23 @@
 
 ghost use Rattle.std.specs.Prelude.{◌≡◌, ◌<◌, ◌≤◌, ◌↔◌, ◌++◌, ◌^◌, true, length, map, OnOk, IfOk, IfSome};
 ghost use Rattle.std.specs.List.{Contains};
-ghost use Rattle.dem_num.specs.Vectors.{widened};
+ghost use Rattle.dem_num.specs.Vectors.{widened, Within};
 ghost use Rattle.dem_num.specs.Rotations.{arm_of};
 ghost use Rattle.dem_model.specs.Motion.{per_step_of, IsSphere};
 ghost use Rattle.dem_model.specs.Families.{family_of, motion_of};
-ghost use Rattle.dem_model.specs.Pairs.{sphere_count, sphere_at, limit_of, pair_of, clumps_meet, apart, all_pairs};
+ghost use Rattle.dem_model.specs.Pairs.{sphere_count, sphere_at, wall_at, limit_of, pair_of, clumps_meet, apart, all_pairs};
 ghost use Rattle.dem_model.specs.Sound.{IsSound, IsBall, IsMotion};
 ghost use Rattle.dem_model.specs.Spheres.{spheres_of_clump};
 ghost use Rattle.dem_shape.specs.Kin.{IsKin};
-ghost use Rattle.dem_shape.specs.Table.{table_entry_of};
+ghost use Rattle.dem_shape.specs.Table.{table_entry_of, AreNormals};
+ghost use Rattle.dem_wall.specs.Normal.{wall_normal_of};
 
 use crate::apart::is_apart;
 use crate::entry::Entry;
 use crate::families::{Kin, has_bit, motion_for};
 use dem_model::{Ball, Motion, OutOfMemory, Pair, Scene};
+use dem_num::Vec3;
+use dem_wall::wall_normal;
 use std::alloc::Global;
 use std::marker::Model;
 
@@ -24,17 +27,18 @@ use std::marker::Model;
 pub struct Shapes<'s> {
     scene: &'s Scene,
     entries: Vec<Entry>,
+    normals: Vec<Vec3>,
 }
 
 impl<'s> Model for Shapes<'s> {
     ghost use Rattle.dem_model.specs.SceneValue.{SceneValue};
-    ghost use Rattle.dem_shape.specs.Table.{IsTable};
+    ghost use Rattle.dem_shape.specs.Table.{AreTables};
 
     ghost Value = { SceneValue };
 
     ghost view = { λ a. a.scene.now };
 
-    ghost invariant = { λ a. IsTable a.scene.now a.entries.items };
+    ghost invariant = { λ a. AreTables a.scene.now a.entries.items a.normals.items };
 }
 
 impl<'s> Shapes<'s> {
@@ -42,12 +46,17 @@ impl<'s> Shapes<'s> {
     pub fn new(alloc: Global, scene: &'s Scene) -> Result<Shapes<'s>, OutOfMemory>
         ensures { IfOk result (λ x. x ≡ scene.now) }
     {
+        let normals = wall_normals(alloc, scene)?;
         let mut entries = Vec::new(alloc);
         for k in 0..scene.clumps.len() {
             let kin = Kin::new(scene, k as u32);
             add_clump(&mut entries, scene, k as u32, kin, scene.clumps.get(k).t)?;
         }
-        Ok(Shapes { scene, entries })
+        Ok(Shapes {
+            scene,
+            entries,
+            normals,
+        })
     }
 
     /// The scene.
@@ -109,6 +118,16 @@ impl<'s> Shapes<'s> {
         self.entry(s).per_step
     }
 
+    /// The unit normal of a wall, times 2^30, by the wall's number after the spheres; zeros for a cylinder.
+    pub fn wall_normal(&self, b: u32) -> Vec3
+        requires later { sphere_count self.now ≤ b }
+        requires there { b < limit_of self.now }
+        ensures value { result ≡ wall_normal_of (wall_at self.now b) }
+        ensures size { Within (widened result) (2 ^ 30) }
+    {
+        self.normals[(b - self.spheres()) as usize]
+    }
+
     /// The family of a clump, from 0 to 15.
     pub fn family_of(&self, clump: u32) -> u32
         requires { clump < length self.now.clumps }
@@ -160,6 +179,19 @@ impl<'s> Shapes<'s> {
     {
         self.entries[s as usize]
     }
+}
+
+/// The unit normals of a scene's walls.
+fn wall_normals(alloc: Global, scene: &Scene) -> Result<Vec<Vec3>, OutOfMemory>
+    ensures { IfOk result (λ x. AreNormals scene.now.walls x.items) }
+{
+    let mut normals = Vec::new(alloc);
+    for wall in scene.walls.as_slice() {
+        if normals.push(wall_normal(wall)).is_err() {
+            return Err(OutOfMemory);
+        }
+    }
+    Ok(normals)
 }
 
 /// Adds the spheres of one clump to the table.

@@ -92,17 +92,17 @@ pub fn gap(at: Vec3, normal: Vec3, c: Vec3) -> i128
     sh(dot(normal, place_difference(c, at)), 30)
 }
 
-/// How a sphere touches a plane, from its center and its radius.
+/// How a sphere touches a plane, from the plane's unit normal, the sphere's center and its radius.
 #[tactic(auto, unfolding(dem_model::specs::Touch::plane_touch, dem_model::specs::Touch::gap_of))]
-pub fn plane_touch(at: Vec3, dir: Vec3, c: Vec3, r: u32) -> Option<Touch>
-    requires some { is_zero (widened dir) ≡ false }
-    requires small { Within (widened dir) (2 ^ 20) }
+pub fn plane_touch(at: Vec3, dir: Vec3, n: Vec3, c: Vec3, r: u32) -> Option<Touch>
+    requires normal { n ≡ unit_of dir }
+    requires normal_small { Within (widened n) (2 ^ 30) }
     requires point_small { Within (widened at) (2 ^ 36) }
     requires center_small { Within (widened c) (2 ^ 36) }
     ensures value { result ≡ plane_touch at dir c r }
     ensures size { IfSome result IsTouch }
 {
-    let n = unit(dir);
+    let _normal_of = dir;
     let gap = gap(at, n, c);
     if is_closer(gap, r as u64) {
         Some(Touch {

@@ -9,13 +9,13 @@ use Rattle.dem_wall.proofs.plane.plane_touch.Goals as goal
 
 pub returns-then-is_closer-clause-value : goal.returns-then-is_closer-clause-value
 returns-then-is_closer-clause-value c =
-    let gap : c.gap-gap.result ≡ gap_of c.args.at c.args.dir c.args.c = gap_from c.args.at c.args.dir c.args.c c.unit-n.result c.gap-gap.result c.unit-n.ensures.value c.gap-gap.ensures.value in
+    let gap : c.gap-gap.result ≡ gap_of c.args.at c.args.dir c.args.c = gap_from c.args.at c.args.dir c.args.c c.args.n c.gap-gap.result c.requires.normal c.gap-gap.ensures.value in
     let below : int_lt c.gap-gap.result (pos c.args.r) ≡ true = grind (arith, to_z-of_z) in
     let overlap : to_z w64 (of_z w64 c.overlap.result) ≡ int_min (pos c.args.r -ℤ c.gap-gap.result) (pos MAX_OVERLAP) = grind (arith, to_z-of_z) in
-    plane_touches c.args.at c.args.dir c.args.c c.unit-n.result c.args.r c.gap-gap.result _ c.unit-n.ensures.value gap below overlap
+    plane_touches c.args.at c.args.dir c.args.c c.args.n c.args.r c.gap-gap.result _ c.requires.normal gap below overlap
 
 pub returns-else-is_closer-clause-value : goal.returns-else-is_closer-clause-value
 returns-else-is_closer-clause-value c =
-    let gap : c.gap-gap.result ≡ gap_of c.args.at c.args.dir c.args.c = gap_from c.args.at c.args.dir c.args.c c.unit-n.result c.gap-gap.result c.unit-n.ensures.value c.gap-gap.ensures.value in
+    let gap : c.gap-gap.result ≡ gap_of c.args.at c.args.dir c.args.c = gap_from c.args.at c.args.dir c.args.c c.args.n c.gap-gap.result c.requires.normal c.gap-gap.ensures.value in
     let above : int_lt c.gap-gap.result (pos c.args.r) ≡ false = grind (arith, to_z-of_z) in
     plane_misses c.args.at c.args.dir c.args.c c.args.r c.gap-gap.result gap above

@@ -26,4 +26,4 @@ pub invariant_of-result : goal.invariant_of-result
 invariant_of-result c =
     let past : length c.args.scene.now.clumps ≤ c.loop-k.k =
     subst (λ (s : SceneValue). length s.clumps ≤ c.loop-k.k) c.scene.view_is (omega (arith, c.len-k-end.ensures, c.loop-k-test.false)) in
-    table_all c.args.scene.now c.loop-k.k c.loop-k.entries.items (subst IsSound c.scene.view_is c.scene.invariant) past c.loop-k.invariant
+    record { spheres = table_all c.args.scene.now c.loop-k.k c.loop-k.entries.items (subst IsSound c.scene.view_is c.scene.invariant) past c.loop-k.invariant; walls = c.in_ok-normals.ensures }

@@ -3,3 +3,4 @@ pub mod Walls
 pub mod Clumps
 pub mod Table
 pub mod Stands
+pub mod WallNames

@@ -64,12 +64,7 @@ fn clump(
         templates.len() as u32,
         spot(Name::ClumpsT, i, 0),
     )?;
-    let family = small_number_or_zero(
-        value,
-        "family",
-        MAX_FAMILY,
-        spot(Name::ClumpsFamily, i, 0),
-    )?;
+    let family = small_number_or_zero(value, "family", MAX_FAMILY, spot(Name::ClumpsFamily, i, 0))?;
     let p = vector_between(value, "p", 0, MAX_POINT - 1, spot(Name::ClumpsP, i, 0))?;
     let v = vector_or_zero(value, "v", MAX_SPEED, spot(Name::ClumpsV, i, 0))?;
     let q = quaternion_or_default(value, "q", spot(Name::ClumpsQ, i, 0))?;

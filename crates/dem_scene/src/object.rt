@@ -132,7 +132,9 @@ pub(crate) fn check(value: &Value, at: Spot) -> Result<(), SceneFault>
 fn all_known_in(later: bool, object: Name, members: &Map<String, Value>) -> bool
     ensures { result ≡ list_all (λ k. is_known_in later object (string_bytes k)) (keys members.now) }
 {
-    members.keys().all(|name| is_known_in(later, object, name.as_str()))
+    members
+        .keys()
+        .all(|name| is_known_in(later, object, name.as_str()))
 }
 
 /// An object, with no name that its table doesn't have in its version.

@@ -3,6 +3,7 @@
 ghost use Rattle.std.specs.Prelude.{◌≡◌, ◌≤◌, ◌+◌, ◌++◌, length, codes, decimal};
 ghost use Rattle.dem_model.specs.ReadingNames.{name_text};
 ghost use Rattle.dem_model.specs.ReadingFaults.{spot_text, clump_text, fault_text};
+ghost use Rattle.dem_scene.specs.WallNames.{IsWallName};
 
 use arrayvec::ArrayVec;
 use dem_model::{Name, SceneFault, Spot};
@@ -129,16 +130,6 @@ fn name_bytes(name: Name) -> &'static [u8]
         Name::TemplatesSpheresAt => b"templates.spheres.at",
         Name::TemplatesSpheresR => b"templates.spheres.r",
         Name::TemplatesSpheresMat => b"templates.spheres.mat",
-        Name::Walls => b"walls",
-        Name::WallsForm => b"walls.form",
-        Name::WallsPlane => b"walls.plane",
-        Name::WallsPlaneAt => b"walls.plane.at",
-        Name::WallsPlaneDir => b"walls.plane.dir",
-        Name::WallsCylinder => b"walls.cylinder",
-        Name::WallsCylinderAxis => b"walls.cylinder.axis",
-        Name::WallsCylinderAt => b"walls.cylinder.at",
-        Name::WallsCylinderR => b"walls.cylinder.r",
-        Name::WallsMat => b"walls.mat",
         Name::Families => b"families",
         Name::FamiliesId => b"families.id",
         Name::FamiliesV => b"families.v",
@@ -152,5 +143,28 @@ fn name_bytes(name: Name) -> &'static [u8]
         Name::ClumpsQ => b"clumps.q",
         Name::ClumpsW => b"clumps.w",
         Name::ClumpsTotal => b"clumps.total",
+        _ => wall_name_bytes(name),
+    }
+}
+
+/// The name of a wall's place, as the messages write it.
+#[tactic(auto, unfolding(dem_model::specs::ReadingNames::name_text))]
+fn wall_name_bytes(name: Name) -> &'static [u8]
+    requires { IsWallName name }
+    ensures text { result.now ≡ name_text name }
+    ensures short { length result.now ≤ MAX_NAME }
+{
+    match name {
+        Name::Walls => b"walls",
+        Name::WallsForm => b"walls.form",
+        Name::WallsPlane => b"walls.plane",
+        Name::WallsPlaneAt => b"walls.plane.at",
+        Name::WallsPlaneDir => b"walls.plane.dir",
+        Name::WallsCylinder => b"walls.cylinder",
+        Name::WallsCylinderAxis => b"walls.cylinder.axis",
+        Name::WallsCylinderAt => b"walls.cylinder.at",
+        Name::WallsCylinderR => b"walls.cylinder.r",
+        Name::WallsMat => b"walls.mat",
+        _ => b"",
     }
 }

@@ -4,6 +4,7 @@ pub mod LimitFacts
 pub mod MeetingFacts
 pub mod MixFacts
 pub mod RangeFacts
+pub mod RollFacts
 pub mod SideFacts
 pub mod SlideFacts
 pub mod SumFacts

@@ -7,17 +7,18 @@ use Rattle.std.proofs.lemmas.List.FromFn.{length-map-range_with_len, get_or-map-
 use Rattle.dem_num.specs.Vectors.{opposed}
 use Rattle.dem_model.specs.SceneValue.{SceneValue}
 use Rattle.dem_model.specs.Motion.{IsPair}
-use Rattle.dem_model.specs.Pairs.{sphere_count, sphere_at, apart}
+use Rattle.dem_model.specs.Pairs.{sphere_count, sphere_at, clumps_meet, apart}
 use Rattle.dem_model.specs.Step.{Meeting, no_load, load_plus, first_clump, is_second, load_with, loads_with}
 use Rattle.dem_model.specs.declared.law.Load.{Load}
 use Rattle.dem_model.specs.declared.state.Pair.{Pair}
 
 -- the two spheres of a pair are of two clumps
 pub two_clumps : (s : SceneValue) (p : Pair) → IsPair s p → p.b < sphere_count s → (sphere_at s p.a).clump ≢ (sphere_at s p.b).clump
-unfolding apart
+unfolding apart clumps_meet
 two_clumps s p h lt =
     let both = rw (lt-ltb p.b (sphere_count s) lt) at h.is_apart in
-    let other = not-true ((sphere_at s p.a).clump == (sphere_at s p.b).clump) (and_parts (nat_lt p.a p.b) _ both).1 in
+    let meet = (and_parts (nat_lt p.a p.b) _ both).1 in
+    let other = not-true ((sphere_at s p.a).clump == (sphere_at s p.b).clump) (and_parts _ _ meet).0 in
     eqb-false (sphere_at s p.a).clump (sphere_at s p.b).clump other
 
 -- the first clump's load with the meeting

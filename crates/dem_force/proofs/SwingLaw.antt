@@ -41,9 +41,9 @@ StateTurns (Ok st) = AllTurn st.bodies
 StateTurns (Err e) = IsNoSwing e
 
 -- the step of one clump
-advance_of-turns : (s : SceneValue) (t : ℕ) (b : Body) (load : Load) → CanTurn b → Turns (advance_of s t b load)
+advance_of-turns : (s : SceneValue) (c : Clump) (b : Body) (load : Load) → CanTurn b → Turns (advance_of s c b load)
 unfolding advance_of
-advance_of-turns s t b load p = limited-turns s _ b _ _ p
+advance_of-turns s c b load p = limited-turns s _ b _ _ p
 
 ended-turns : (step k : ℕ) (r : Result Body EndKind) → Turns r → OneTurns (ended step k r)
 unfolding ended
@@ -73,8 +73,8 @@ advanced-turns : (s : SceneValue) (step k : ℕ) (cs : List Clump) (bs : List Bo
 unfolding advanced_from
 advanced-turns s step k [] bs ws h = tt
 advanced-turns s step k (c ∷ cs) bs ws h =
-    joined-turns (ended step k (advance_of s c.t (first_body bs) (first_load ws))) (advanced_from s step (k + 1) cs (drop 1 bs) (drop 1 ws))
-    (ended-turns step k (advance_of s c.t (first_body bs) (first_load ws)) (advance_of-turns s c.t (first_body bs) (first_load ws) (first-turns bs h)))
+    joined-turns (ended step k (advance_of s c (first_body bs) (first_load ws))) (advanced_from s step (k + 1) cs (drop 1 bs) (drop 1 ws))
+    (ended-turns step k (advance_of s c (first_body bs) (first_load ws)) (advance_of-turns s c (first_body bs) (first_load ws) (first-turns bs h)))
     (advanced-turns s step (k + 1) cs (drop 1 bs) (drop 1 ws) (rest-turns bs h))
 
 state_with-turns : (step : ℕ) (ms : List Meeting) (r : Result (List Body) End) → BodiesTurn r → StateTurns (state_with step ms r)

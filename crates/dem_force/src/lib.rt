@@ -3,7 +3,7 @@
 //! `touch` tests a pair, `side_of` and `wall_side` are the sides of a contact, `mix` joins two materials, `contact` is the
 //! push of one contact, `pair_contact` that of a pair from its two bodies, `Spheres` the centers and sides of all, `pushed` and `push_at` what a pair does by them,
 //! `advance` the step of one clump, or the first limit that it passes, `advance_by` the same from its matrix; `never_swings` says that no run passes the swing limit.
-//! Means: `Touch`, `Mixing`, `Law`, `Advance` of dem_model. Callers rest on: each call is its definition, a push is within
+//! Means: `Touch`, `Mixing`, `Law`, `Families`, `Advance` of dem_model. Callers rest on: each call is its definition, a push is within
 //! the sizes that sums are bounded by, and a clump that advances is sound. Takes memory: `Spheres::new`, `no_loads`.
 //! Not here: walls (dem_wall), sums over contacts (dem_plain).
 #![tactic(auto)]

@@ -10,19 +10,21 @@ ghost use Rattle.dem_model.specs.Advance.{
   limited,
   advance_of,
 };
+ghost use Rattle.dem_model.specs.Families.{velocity_by, spin_by};
 ghost use Rattle.dem_model.specs.Sound.{IsSound, IsTemplate, IsBody, IsBodyOf};
 ghost use Rattle.dem_model.specs.Step.{clump_at};
 ghost use Rattle.dem_force.specs.Placed.{IsPlaced};
 
-use crate::advancing::body::{next_spin, velocity};
 use crate::advancing::limits::within_limits;
-use dem_model::{Body, Clump, EndKind, Scene, Template};
+use crate::advancing::speeds::new_speeds;
+use dem_model::{Body, Clump, EndKind, Motion, Scene, Template};
 use dem_num::{Rows, Wide3};
 use dem_shape::Shapes;
 use dem_turn::matrix;
 
 /// The body of a clump after a step under the sums of its forces and of its torques in world axes, or the first limit
-/// that it passes: speed, spin, domain. No step passes the fourth, the swing limit.
+/// that it passes: speed, spin, domain. No step passes the fourth, the swing limit. A clump whose family has a motion takes
+/// its new velocity and its new spin from that, whatever its load; position, quaternion and limits are as for each clump.
 pub fn advance(
     shapes: &Shapes,
     clump: u32,
@@ -34,7 +36,7 @@ pub fn advance(
     requires body { IsBodyOf shapes.now (clump_at shapes.now clump) body.now }
     requires force { Within force (2 ^ 84) }
     requires torque { Within torque (2 ^ 114) }
-    ensures value { result ≡ advance_of shapes.now (clump_at shapes.now clump).t body.now (record { force = force; torque = torque }) }
+    ensures value { result ≡ advance_of shapes.now (clump_at shapes.now clump) body.now (record { force = force; torque = torque }) }
     ensures sound { IfOk result (IsBodyOf shapes.now (clump_at shapes.now clump)) }
     ensures unswung { IfErr result (λ e. e ≢ EndKind.Swing) }
 {
@@ -56,13 +58,22 @@ pub fn advance_by(
     requires body { IsBodyOf shapes.now (clump_at shapes.now clump) body.now }
     requires force { Within force (2 ^ 84) }
     requires torque { Within torque (2 ^ 114) }
-    ensures value { result ≡ advance_of shapes.now (clump_at shapes.now clump).t body.now (record { force = force; torque = torque }) }
+    ensures value { result ≡ advance_of shapes.now (clump_at shapes.now clump) body.now (record { force = force; torque = torque }) }
     ensures sound { IfOk result (IsBodyOf shapes.now (clump_at shapes.now clump)) }
     ensures unswung { IfErr result (λ e. e ≢ EndKind.Swing) }
 {
     let scene = shapes.scene();
     let t = template_number(scene, clump);
-    advance_as(scene, template_at(scene, t), rows, body, force, torque)
+    let motion = shapes.motion(clump);
+    advance_as(
+        scene,
+        template_at(scene, t),
+        motion,
+        rows,
+        body,
+        force,
+        torque,
+    )
 }
 
 /// The number of a clump's template.
@@ -92,10 +103,11 @@ fn template_at(scene: &Scene, t: u32) -> &Template
     scene.templates.get(t as usize)
 }
 
-/// The step of a clump of this template.
+/// The step of a clump of this template, whose family has this motion.
 fn advance_as(
     scene: &Scene,
     template: &Template,
+    motion: Option<Motion>,
     rows: &Rows,
     body: &Body,
     force: Wide3,
@@ -107,11 +119,10 @@ fn advance_as(
     requires entries { EntriesWithin rows.now (2 ^ 30) }
     requires body { IsBody scene.now body.now }
     requires force { Within force (2 ^ 84) }
-    ensures value { result ≡ limited scene.now template.now.balls body.now (velocity_after scene.now.gravity template.now.mass body.now.v force) (spin_after template.now.moments body.now.w (body_torque_of body.now torque)) }
+    ensures value { result ≡ limited scene.now template.now.balls body.now (velocity_by motion (velocity_after scene.now.gravity template.now.mass body.now.v force)) (spin_by motion (spin_after template.now.moments body.now.w (body_torque_of body.now torque))) }
     ensures placed { IfOk result (IsPlaced scene.now template.now.balls) }
     ensures unswung { IfErr result (λ e. e ≢ EndKind.Swing) }
 {
-    let v = velocity(scene.gravity, template.mass, body.v, force);
-    let w = next_spin(template.moments, body, rows, torque);
-    within_limits(scene, template.balls.as_slice(), body, v, w)
+    let speeds = new_speeds(scene, template, motion, rows, body, force, torque);
+    within_limits(scene, template.balls.as_slice(), body, speeds.v, speeds.w)
 }

@@ -3,4 +3,5 @@
 pub mod body;
 pub mod clump;
 pub mod limits;
+pub mod speeds;
 pub mod unswung;

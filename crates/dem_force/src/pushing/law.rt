@@ -5,11 +5,13 @@ ghost use Rattle.dem_num.specs.Vectors.{widened, no_vector, Within};
 ghost use Rattle.dem_model.specs.Law.{push_with, pushed_of, contact_of};
 ghost use Rattle.dem_model.specs.declared.limits.TheConstants.{MAX_DISPLACEMENT};
 ghost use Rattle.dem_model.specs.Ranges.{IsLaw, IsBounded, IsFirst, IsSecond, IsTouch, IsSmall};
+ghost use Rattle.dem_force.specs.Unrolled.{IsUnrolled};
 
 use crate::pushing::mixing::{effective_mass, effective_radius};
 use crate::pushing::motion::{contact_radius, depth, motion_between};
 use crate::pushing::normal::normal_force;
-use crate::pushing::push::{force_on_first, rubbing, torque_on_first, torque_on_second};
+use crate::pushing::push::{Torques, force_on_first, rubbing, torque_on_first, torque_on_second};
+use crate::pushing::rolling::resisted;
 use crate::pushing::sliding::{carried, friction_bound, gripped, held_where, trial};
 use dem_model::{Law, Push, Side, Touch};
 use dem_num::{Vec3, WIDE_ZERO, ZERO};
@@ -36,6 +38,7 @@ fn pushed(law: &Law, a: &Side, b: &Side, n: Vec3, delta: u64, h0: Vec3) -> Push
     requires law { IsLaw law.now }
     requires first { IsFirst a.now }
     requires second { IsBounded b.now }
+    requires sphere_or_wall { IsSecond b.now }
     requires normal { Within (widened n) (2 ^ 30) }
     requires overlap { delta ≤ 2 ^ 27 }
     requires stored { Within (widened h0) MAX_DISPLACEMENT }
@@ -48,10 +51,21 @@ fn pushed(law: &Law, a: &Side, b: &Side, n: Vec3, delta: u64, h0: Vec3) -> Push
     let h = carried(n, motion.slip, h0);
     let normal = normal_force(law, c, delta, mass, motion.speed);
     let trial = trial(law, c, mass, h, motion.slip);
-    push_at(law, a, b, n, delta, normal, h, trial)
+    let mut push = push_at(law, a, b, n, delta, normal, h, trial);
+    if law.mr != 0 {
+        let own = Torques {
+            first: push.torque_a,
+            second: push.torque_b,
+        };
+        let torques = resisted(law, a, b, n, normal, own);
+        push.torque_a = torques.first;
+        push.torque_b = torques.second;
+    }
+    push
 }
 
-/// What a contact does, once the normal force, the displacement and the trial of the tangential force are known.
+/// What a contact does without rolling resistance, once the normal force, the displacement and the trial of the tangential
+/// force are known.
 fn push_at(
     law: &Law,
     a: &Side,
@@ -70,7 +84,7 @@ fn push_at(
     requires held { Within (widened h) MAX_DISPLACEMENT }
     requires trial_small { Within (widened trial) (2 ^ 62) }
     ensures value { result ≡ push_with law.now a.now b.now n delta normal h (widened trial) }
-    ensures size { IsSmall result }
+    ensures size { IsUnrolled result }
 {
     if is_zero(trial) {
         undragged(law, a, b, n, delta, normal, h)
@@ -87,7 +101,7 @@ fn undragged(law: &Law, a: &Side, b: &Side, n: Vec3, delta: u64, normal: u64, h:
     requires normal_small { normal ≤ 2 ^ 62 }
     requires held { Within (widened h) MAX_DISPLACEMENT }
     ensures value { result ≡ push_with law.now a.now b.now n delta normal h no_vector }
-    ensures size { IsSmall result }
+    ensures size { IsUnrolled result }
 {
     let _overlap = delta;
     let force = force_on_first(n, normal, ZERO);
@@ -119,7 +133,7 @@ fn dragged(
     requires held { Within (widened h) MAX_DISPLACEMENT }
     requires trial_small { Within (widened trial) (2 ^ 62) }
     ensures value { result ≡ push_with law.now a.now b.now n delta normal h (widened trial) }
-    ensures size { IsSmall result }
+    ensures size { IsUnrolled result }
 {
     let grip = gripped(law.kt, friction_bound(law.mu, normal), trial, h);
     let force = force_on_first(n, normal, grip.friction);

@@ -25,6 +25,7 @@ pub fn mix(a: &Material, b: &Material) -> Law
         bn: a.bn.max(b.bn),
         bt: a.bt.max(b.bt),
         mu: a.mu.min(b.mu),
+        mr: a.mr.min(b.mr),
     }
 }
 

@@ -8,6 +8,7 @@ pub mod narrow;
 pub mod normal;
 pub mod pairwise;
 pub mod push;
+pub mod rolling;
 pub mod side_list;
 pub mod sides;
 pub mod sliding;

@@ -1,6 +1,6 @@
 //! What a contact does: the force along and across the normal, and the torques of both sides.
 
-ghost use Rattle.std.specs.Prelude.{◌≡◌, pos, ◌^◌, ◌≤◌, ◌*ℤ◌};
+ghost use Rattle.std.specs.Prelude.{◌≡◌, pos, ◌+◌, ◌^◌, ◌≤◌, ◌*ℤ◌};
 ghost use Rattle.dem_num.specs.Numbers.{AtMost, shifted};
 ghost use Rattle.dem_num.specs.Vectors.{widened, Within, cross_of, difference_of, opposed};
 ghost use Rattle.dem_model.specs.Law.{force_of, friction_torque_of};
@@ -47,7 +47,7 @@ fn opposed_torque(lever: Vec3, force: Wide3) -> Wide3
     negated3(lever_torque(lever, force))
 }
 
-/// The torques of friction about the centers of the two spheres.
+/// Torques on the two sides: those of friction about the centers of their spheres, or those of a whole contact.
 #[derive(Clone, Copy, PartialEq, Debug)]
 pub struct Torques {
     pub first: Wide3,
@@ -122,7 +122,7 @@ pub fn torque_on_first(a: &Side, force: Wide3, rubbed: Wide3) -> Wide3
     requires force_small { Within force (2 ^ 63) }
     requires rubbed_small { Within rubbed (2 ^ 89) }
     ensures value { result ≡ difference_of (cross_of (widened a.now.lever) force) rubbed }
-    ensures size { Within result (2 ^ 93) }
+    ensures size { Within result (2 ^ 92 + 2 ^ 89) }
 {
     sub3(lever_torque(a.lever, force), rubbed)
 }
@@ -133,7 +133,7 @@ pub fn torque_on_second(b: &Side, force: Wide3, rubbed: Wide3) -> Wide3
     requires force_small { Within force (2 ^ 63) }
     requires rubbed_small { Within rubbed (2 ^ 89) }
     ensures value { result ≡ difference_of (opposed (cross_of (widened b.now.lever) force)) rubbed }
-    ensures size { Within result (2 ^ 93) }
+    ensures size { Within result (2 ^ 92 + 2 ^ 89) }
 {
     sub3(opposed_torque(b.lever, force), rubbed)
 }

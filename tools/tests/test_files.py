@@ -191,7 +191,7 @@ class CheckScene(Folder):
         self.finds("moments of no body", lambda tree: tree["templates"][0].update(moments=[4 * 10**9, 4 * 10**9, 10**10]))
         self.finds("told in voxels", lambda tree: tree.update(box=[2**20] * 3))
         self.finds("Rayleigh", lambda tree: tree["materials"][0].update(kn=2**28, kt=2**28))
-        self.finds("a fall through the box", lambda tree: tree.update(speed=2**16))
+        self.finds("that falls to the end of the box", lambda tree: tree.update(speed=2**16))
         self.finds("in a step", lambda tree: tree.update(speed=2**32))
         self.finds("positions move by whole u", lambda tree: None)
 

@@ -14,7 +14,7 @@ use Rattle.dem_margin.proofs.PairsFacts.{all_pairs-pairs}
 use Rattle.dem_margin.proofs.TouchFacts.{spheres_cover, wall_covers}
 
 -- a wall that is there is sound
-wall_at-sound : (s : SceneValue) (b : ℕ) → IsSound s → sphere_count s ≤ b → b < limit_of s → IsWall (length s.materials) s.templates (wall_at s b)
+pub wall_at-sound : (s : SceneValue) (b : ℕ) → IsSound s → sphere_count s ≤ b → b < limit_of s → IsWall (length s.materials) s.templates (wall_at s b)
 unfolding wall_at limit_of
 wall_at-sound s b sound later there = sound.walls (b - sphere_count s) no_wall (omega arith)
 

@@ -4,15 +4,16 @@ ghost use Rattle.std.specs.Prelude.{◌≡◌, ◌+◌, ◌^◌, ◌<◌, ◌≤
 ghost use Rattle.dem_num.specs.Numbers.{AtMost};
 ghost use Rattle.dem_num.specs.Vectors.{Within};
 ghost use Rattle.dem_model.specs.Motion.{AreInside, IsPair};
-ghost use Rattle.dem_model.specs.Near.{drift_of, reach_of, spheres_near, near as is_near};
-ghost use Rattle.dem_model.specs.Pairs.{sphere_count};
+ghost use Rattle.dem_model.specs.Centers.{center_at};
+ghost use Rattle.dem_model.specs.Near.{drift_of, reach_of, spheres_near, wall_near_of, near as is_near};
+ghost use Rattle.dem_model.specs.Pairs.{sphere_count, sphere_at, wall_at};
 ghost use Rattle.dem_model.specs.declared.limits.TheConstants.{MAX_DRIFT};
 
 use dem_force::{center, wall_beside};
 use dem_model::{Pair, Steps};
 use dem_num::{Wide3, narrow, place_difference};
 use dem_shape::{Centers, Shapes};
-use dem_wall::wall_near;
+use dem_wall::wall_near_by;
 use std::sync::ledger::Ledger;
 
 /// How far a sphere may reach in `drift` steps, in u per axis: its radius and how far it may move.
@@ -63,16 +64,29 @@ pub fn tested(shapes: &Shapes, centers: &Centers, pair: Pair, drift: u32) -> boo
     requires drift { drift ≤ MAX_DRIFT }
     ensures { result ≡ is_near shapes.now drift centers.now pair }
 {
-    let first = center(shapes, centers, pair.a);
     if pair.b < shapes.spheres() {
+        let first = center(shapes, centers, pair.a);
         let second = center(shapes, centers, pair.b);
         let reach = reach(shapes, drift, pair.a) + reach(shapes, drift, pair.b);
         within(place_difference(first, second), reach)
     } else {
-        let wall = wall_beside(shapes, pair);
-        let extra = moved(shapes, drift, pair.a);
-        wall_near(&wall, first, shapes.ball_of(pair.a).r, extra)
+        beside(shapes, centers, pair, drift)
     }
+}
+
+/// Whether a sphere is near a wall: whether it may touch it within `drift` steps after these centers.
+pub fn beside(shapes: &Shapes, centers: &Centers, pair: Pair, drift: u32) -> bool
+    requires pair { IsPair shapes.now pair }
+    requires wall { sphere_count shapes.now ≤ pair.b }
+    requires centers { AreInside shapes.now centers.now }
+    requires drift { drift ≤ MAX_DRIFT }
+    ensures { result ≡ wall_near_of (wall_at shapes.now pair.b) (center_at centers.now pair.a) (sphere_at shapes.now pair.a).ball.r (drift_of shapes.now drift pair.a) }
+{
+    let wall = wall_beside(shapes, pair);
+    let normal = shapes.wall_normal(pair.b);
+    let extra = moved(shapes, drift, pair.a);
+    let place = center(shapes, centers, pair.a);
+    wall_near_by(&wall, normal, place, shapes.ball_of(pair.a).r, extra)
 }
 
 /// Whether no component of a difference is greater than this reach in size.

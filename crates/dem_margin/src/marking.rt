@@ -8,13 +8,13 @@ ghost use Rattle.dem_model.specs.Pairs.{sphere_count, sphere_at};
 ghost use Rattle.dem_model.specs.declared.limits.TheConstants.{MAX_DRIFT};
 ghost use Rattle.dem_margin.specs.Marks.{left_of, spheres_may, may_touch as may};
 
-use crate::margin::moved;
+use crate::margin::{beside, moved};
 use dem_force::center;
 use dem_model::Pair;
 use dem_num::{Wide3, narrow, place_difference};
 use dem_shape::{Centers, Shapes};
 
-/// Whether a pair may touch within `steps` steps after these centers; a sphere and a wall always may. It counts no test.
+/// Whether a pair may touch within `steps` steps after these centers. It counts no test.
 #[tactic(auto, unfolding(crate::specs::Marks::may_touch))]
 pub fn may_touch(shapes: &Shapes, centers: &Centers, pair: Pair, steps: u32) -> bool
     requires pair { IsPair shapes.now pair }
@@ -28,7 +28,7 @@ pub fn may_touch(shapes: &Shapes, centers: &Centers, pair: Pair, steps: u32) -> 
         let moves = moved(shapes, steps, pair.a) + moved(shapes, steps, pair.b);
         is_within(place_difference(first, second), moves, radii(shapes, pair))
     } else {
-        true
+        beside(shapes, centers, pair, steps)
     }
 }
 

@@ -117,15 +117,16 @@ pub fn plane_touch(at: Vec3, dir: Vec3, n: Vec3, c: Vec3, r: u32) -> Option<Touc
 /// Whether a sphere is near a plane, where it may move at most `extra` u per axis.
 /// Each component of the normal is at most 1, so that the gap changes by at most three times that.
 #[tactic(auto, unfolding(dem_model::specs::Near::plane_near, dem_model::specs::Touch::gap_of))]
-pub fn plane_near(at: Vec3, dir: Vec3, c: Vec3, r: u32, extra: u64) -> bool
-    requires some { is_zero (widened dir) ≡ false }
-    requires small { Within (widened dir) (2 ^ 20) }
+pub fn plane_near(at: Vec3, dir: Vec3, n: Vec3, c: Vec3, r: u32, extra: u64) -> bool
+    requires normal { n ≡ unit_of dir }
+    requires normal_small { Within (widened n) (2 ^ 30) }
     requires point_small { Within (widened at) (2 ^ 36) }
     requires center_small { Within (widened c) (2 ^ 36) }
     requires extra_small { extra ≤ 2 ^ 37 }
     ensures { result ≡ plane_near at dir c r extra }
 {
-    is_closer(gap(at, unit(dir), c), r as u64 + 3 * extra)
+    let _normal_of = dir;
+    is_closer(gap(at, n, c), r as u64 + 3 * extra)
 }
 
 /// Whether a gap is less than a distance.

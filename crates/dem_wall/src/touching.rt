@@ -57,15 +57,27 @@ pub fn wall_touch_by(wall: &Wall, normal: Vec3, c: Vec3, r: u32) -> Option<Touch
 }
 
 /// Whether a sphere with center `c` and radius `r` is near a wall: whether it may touch it after moving at most `extra` u per axis.
-#[tactic(auto, unfolding(dem_model::specs::Near::wall_near_of))]
 pub fn wall_near(wall: &Wall, c: Vec3, r: u32, extra: u64) -> bool
     requires wall { IsWallFor r wall.now.form }
     requires center { EachBetween (pos 0) (pos MAX_POINT) c }
     requires extra_small { extra ≤ 2 ^ 37 }
     ensures { result ≡ wall_near_of wall.now c r extra }
 {
+    wall_near_by(wall, wall_normal(wall), c, r, extra)
+}
+
+/// The same, from the wall's unit normal.
+#[tactic(auto, unfolding(dem_model::specs::Near::wall_near_of, crate::specs::Normal::wall_normal_of))]
+pub fn wall_near_by(wall: &Wall, normal: Vec3, c: Vec3, r: u32, extra: u64) -> bool
+    requires wall { IsWallFor r wall.now.form }
+    requires normal { normal ≡ wall_normal_of wall.now }
+    requires normal_small { Within (widened normal) (2 ^ 30) }
+    requires center { EachBetween (pos 0) (pos MAX_POINT) c }
+    requires extra_small { extra ≤ 2 ^ 37 }
+    ensures { result ≡ wall_near_of wall.now c r extra }
+{
     match wall.form {
-        Form::Plane { at, dir } => plane_near(at, dir, c, r, extra),
+        Form::Plane { at, dir } => plane_near(at, dir, normal, c, r, extra),
         Form::Cylinder {
             axis,
             at,

@@ -13,7 +13,7 @@ use crate::touching::spheres::spheres_touch;
 use dem_model::{Pair, Steps, Touch, Wall};
 use dem_num::{Vec3, place_difference};
 use dem_shape::{Centers, Shapes};
-use dem_wall::wall_touch;
+use dem_wall::wall_touch_by;
 use std::sync::ledger::Ledger;
 
 /// Whether a pair touches, where the centers are these: the normal, which pushes the first along it, and the overlap in u. It counts one test.
@@ -47,7 +47,12 @@ pub fn pair_touch(shapes: &Shapes, centers: &Centers, pair: Pair) -> Option<Touc
         spheres_touch(place_difference(first, second), radii(shapes, pair))
     } else {
         let wall = wall_beside(shapes, pair);
-        wall_touch(&wall, first, shapes.ball_of(pair.a).r)
+        wall_touch_by(
+            &wall,
+            shapes.wall_normal(pair.b),
+            first,
+            shapes.ball_of(pair.a).r,
+        )
     }
 }
 

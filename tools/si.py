@@ -1,4 +1,4 @@
-"""Metres, seconds and kilograms to a scene's whole numbers and back, by the formulas of docs/physics.md ("Choosing units").
+"""Metres, seconds and kilograms to a scene's whole numbers and back, by the formulas of docs/units.md.
 
 The restitution is that of the law as it is: its normal force is cut off at zero, so a contact ends where damping outweighs the spring.
 """

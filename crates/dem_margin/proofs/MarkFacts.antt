@@ -1,5 +1,5 @@
 -- A pair that may not touch doesn't, at centers to which no sphere has moved farther than it may.
-use Rattle.std.proofs.Common.{◌≡◌, ℕ, ◌+◌, ◌-◌, ◌*◌, ◌<◌, ◌≤◌, arith, ℤ, ◌-ℤ◌, unsigned_abs, true, false, Bool, List, length, inl, inr, Option, Some, None, refl, sym, ◌∙◌}
+use Rattle.std.proofs.Common.{◌≡◌, ℕ, ◌+◌, ◌-◌, ◌*◌, ◌≤◌, arith, ℤ, ◌-ℤ◌, unsigned_abs, true, false, Bool, List, length, inl, inr, Option, Some, None, refl, sym, ◌∙◌}
 use Rattle.std.specs.Prelude.{nat_lt, is_some}
 use Rattle.std.proofs.lemmas.Bool.{cases_lt, lt-ltb, le-ltb}
 use Rattle.std.proofs.lemmas.Int.{ints}

@@ -10,8 +10,9 @@ import law
 import scenes
 from vectors import minus, parts, plus
 
-STEPS = ("overlap-of-one", "same-place", "slides-then-sticks", "bounces-back", "damped-approach", "never-pulls", "strikes-twice", "just-not-touching")
-CROWDS = ("settles-in-a-box", "dumbbells-collide", "rolls-in-a-drum", "rolls-down-a-slope", "hopper-runs-out", "mill-lifts-its-charge", "packing-comes-to-rest")
+STEPS = ("overlap-of-one", "same-place", "slides-then-sticks", "bounces-back", "damped-approach", "never-pulls", "strikes-twice", "just-not-touching",
+         "resists-rolling", "driven-against-another")
+CROWDS = ("settles-in-a-box", "paddle-stirs-grains", "stays-on-a-slope", "families-pass-through", "dumbbells-collide", "rolls-in-a-drum", "rolls-down-a-slope", "hopper-runs-out", "mill-lifts-its-charge", "packing-comes-to-rest")
 
 
 def summed(scene, found):
@@ -23,6 +24,13 @@ def summed(scene, found):
         if it.b < len(spheres):
             sums[spheres[it.b].clump] = minus(sums[spheres[it.b].clump], it.force)
     return sums
+
+
+def next_velocity(scene, i, v, force):
+    """Of a clump under gravity and a force, or that of its family's motion."""
+    clump = scene["clumps"][i]
+    driven = [it["v"] for it in scene["families"] if it["id"] == clump["family"]]
+    return driven[0] if driven else plus(plus(v, scene["gravity"]), parts(force, scene["templates"][clump["t"]]["mass"]))
 
 
 def torques(scene, found):
@@ -55,9 +63,8 @@ class OneStep(unittest.TestCase):
             for before, after in zip(states, states[1:]):
                 found = law.contacts(scene, before.bodies, before.held)
                 for i, force in enumerate(summed(scene, found)):
-                    mass = scene["templates"][scene["clumps"][i]["t"]]["mass"]
                     with self.subTest(name, step=after.step, clump=i):
-                        self.assertEqual(plus(plus(before.bodies[i].v, scene["gravity"]), parts(force, mass)), after.bodies[i].v)
+                        self.assertEqual(next_velocity(scene, i, before.bodies[i].v, force), after.bodies[i].v)
 
     def test_pairs_hold_the_next_displacement(self):
         count = 0

@@ -90,6 +90,8 @@ impl Meant for Brand {
         templates = [];
         walls = [];
         clumps = [];
+        motions = [];
+        off = [];
       };
       drift = 0;
     } };

@@ -11,6 +11,8 @@ mod command_lines;
 #[cfg(test)]
 mod exchanges;
 #[cfg(test)]
+mod facets;
+#[cfg(test)]
 mod forces;
 #[cfg(test)]
 mod frames;

@@ -8,6 +8,7 @@ use Rattle.dem_model.specs.SceneValue.{SceneValue}
 use Rattle.dem_model.specs.Centers.{centers_of}
 use Rattle.dem_model.specs.Motion.{IsPair}
 use Rattle.dem_model.specs.Plain.{plain_at}
+use Rattle.dem_model.specs.Sound.{IsSound}
 use Rattle.dem_model.specs.declared.state.Body.{Body}
 use Rattle.dem_model.specs.declared.state.Pair.{Pair}
 use Rattle.dem_model.specs.declared.state.State.{State}
@@ -44,10 +45,10 @@ abbrev pub AreRenewed : SceneValue → ℕ → List Vec3 → List Pair → Marks
 AreRenewed s left centers ps old new = (i : ℕ) (p : Pair) → slice_get ps i ≡ Some p → is_met new i ≡ false → (is_met old i ≡ false) ⊎ (may_touch s left centers p ≡ false)
 
 -- once marks are made anew, for as many steps as the list is used yet
-pub marks_renewed : (s : SceneValue) (step left last : ℕ) (ps : List Pair) (old new : Marks) (bodies : List Body) (centers : List Vec3) → StayMarked s step last ps old → step + left ≡ last →
+pub marks_renewed : (s : SceneValue) (step left last : ℕ) (ps : List Pair) (old new : Marks) (bodies : List Body) (centers : List Vec3) → IsSound s → StayMarked s step last ps old → step + left ≡ last →
     plain_at s step ≡ Some (state_at s step) → bodies ≡ (state_at s step).bodies → centers ≡ centers_of s bodies → All (IsPair s) ps →
     length new.may.items ≡ length old.may.items → AreRenewed s left centers ps old new → StayMarked s step last ps new
-marks_renewed s step left last ps old new bodies centers h until plain bodies_are centers_are pairs same renewed = record {
+marks_renewed s step left last ps old new bodies centers sound h until plain bodies_are centers_are pairs same renewed = record {
   room = omega (arith, h.room, same);
   each = λ (n : ℕ) (st : State) (late : step ≤ n) (early : n ≤ last) (there : plain_at s n ≡ Some st) (i : ℕ) (p : Pair) (is : slice_get ps i ≡ Some p) (unmet : is_met new i ≡ false).
       elim (renewed i p is unmet) [
@@ -57,7 +58,7 @@ marks_renewed s step left last ps old new bodies centers h until plain bodies_ar
             let there' : plain_at s (step + (n - step)) ≡ Some st = subst (λ m. plain_at s m ≡ Some st) (sym e) there in
             let moved = drifts-wider s (n - step) left _ _ (run-moves s step (n - step) (state_at s step) st plain there') (omega arith) in
             let here : may_touch s left (centers_of s (state_at s step).bodies) p ≡ false = subst (λ cs. may_touch s left cs p ≡ false) (centers_are ∙ ap (centers_of s) bodies_are) far in
-            parted s left (centers_of s (state_at s step).bodies) (centers_of s st.bodies) p moved (all-read (IsPair s) ps i p pairs is) here
+            parted s left (centers_of s (state_at s step).bodies) (centers_of s st.bodies) p sound moved (all-read (IsPair s) ps i p pairs is) here
       ];
 }
 

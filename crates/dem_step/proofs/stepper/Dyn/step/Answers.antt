@@ -70,7 +70,7 @@ meet_unless-requires-clause-marked g c =
     let from : c.from.result ≡ c.self.inside.contacts.list.from = c.from.ensures ∙ ap (λ (l : Pairs). l.from) c.list.ensures.value in
     let stay : StayMarked c.self.inside.shapes.now c.self.inside.step (c.self.inside.contacts.list.from + c.self.inside.drift) c.self.inside.contacts.list.pairs c.renew_unless.new.self =
     marks_renewed c.self.inside.shapes.now c.self.inside.step c.steps_left-left.result (c.self.inside.contacts.list.from + c.self.inside.drift) c.self.inside.contacts.list.pairs c.self.inside.marks c.renew_unless.new.self
-    c.self.inside.bodies c.make.new.self.spheres.centers c.self.invariant.3 (c.steps_left-left.ensures.value ∙ ap (λ n. n + c.self.inside.drift) from) c.self.invariant.0.plain c.self.invariant.0.bodies_are c.make.ensures.centers_are
+    c.self.inside.bodies c.make.new.self.spheres.centers c.self.invariant.0.scene c.self.invariant.3 (c.steps_left-left.ensures.value ∙ ap (λ n. n + c.self.inside.drift) from) c.self.invariant.0.plain c.self.invariant.0.bodies_are c.make.ensures.centers_are
     can.pairs.each c.renew_unless.ensures.room
     (subst (λ (l : Pairs). AreRenewed c.self.inside.shapes.now c.steps_left-left.result c.make.new.self.spheres.centers l.pairs c.self.inside.marks c.renew_unless.new.self) c.list-2.ensures.value c.renew_unless.ensures.right) in
     marks_now c.self.inside.shapes.now c.self.inside.step (c.self.inside.contacts.list.from + c.self.inside.drift) c.self.inside.contacts.list.pairs c.renew_unless.new.self c.self.inside.bodies c.make.new.self.spheres.centers
@@ -129,7 +129,7 @@ invariant_of-self-in-Err g c =
     let from : c.from.result ≡ c.self.inside.contacts.list.from = c.from.ensures ∙ ap (λ (l : Pairs). l.from) c.list.ensures.value in
     let stay : StayMarked c.self.inside.shapes.now c.self.inside.step (c.self.inside.contacts.list.from + c.self.inside.drift) c.self.inside.contacts.list.pairs c.renew_unless.new.self =
     marks_renewed c.self.inside.shapes.now c.self.inside.step c.steps_left-left.result (c.self.inside.contacts.list.from + c.self.inside.drift) c.self.inside.contacts.list.pairs c.self.inside.marks c.renew_unless.new.self
-    c.self.inside.bodies c.make.new.self.spheres.centers c.self.invariant.3 (c.steps_left-left.ensures.value ∙ ap (λ n. n + c.self.inside.drift) from) c.self.invariant.0.plain c.self.invariant.0.bodies_are c.make.ensures.centers_are
+    c.self.inside.bodies c.make.new.self.spheres.centers c.self.invariant.0.scene c.self.invariant.3 (c.steps_left-left.ensures.value ∙ ap (λ n. n + c.self.inside.drift) from) c.self.invariant.0.plain c.self.invariant.0.bodies_are c.make.ensures.centers_are
     can.pairs.each c.renew_unless.ensures.room
     (subst (λ (l : Pairs). AreRenewed c.self.inside.shapes.now c.steps_left-left.result c.make.new.self.spheres.centers l.pairs c.self.inside.marks c.renew_unless.new.self) c.list-2.ensures.value c.renew_unless.ensures.right) in (
       c.self.invariant.0,
@@ -190,7 +190,7 @@ invariant_of-self g c =
     let from : c.from.result ≡ c.self.inside.contacts.list.from = c.from.ensures ∙ ap (λ (l : Pairs). l.from) c.list.ensures.value in
     let stay : StayMarked c.self.inside.shapes.now c.self.inside.step (c.self.inside.contacts.list.from + c.self.inside.drift) c.self.inside.contacts.list.pairs c.renew_unless.new.self =
     marks_renewed c.self.inside.shapes.now c.self.inside.step c.steps_left-left.result (c.self.inside.contacts.list.from + c.self.inside.drift) c.self.inside.contacts.list.pairs c.self.inside.marks c.renew_unless.new.self
-    c.self.inside.bodies c.make.new.self.spheres.centers c.self.invariant.3 (c.steps_left-left.ensures.value ∙ ap (λ n. n + c.self.inside.drift) from) c.self.invariant.0.plain c.self.invariant.0.bodies_are c.make.ensures.centers_are
+    c.self.inside.bodies c.make.new.self.spheres.centers c.self.invariant.0.scene c.self.invariant.3 (c.steps_left-left.ensures.value ∙ ap (λ n. n + c.self.inside.drift) from) c.self.invariant.0.plain c.self.invariant.0.bodies_are c.make.ensures.centers_are
     can.pairs.each c.renew_unless.ensures.room
     (subst (λ (l : Pairs). AreRenewed c.self.inside.shapes.now c.steps_left-left.result c.make.new.self.spheres.centers l.pairs c.self.inside.marks c.renew_unless.new.self) c.list-2.ensures.value c.renew_unless.ensures.right) in (
       subst (λ (h : HeldByPlace). IsStepper c.self.inside.shapes.now c.self.inside.drift (c.self.inside.step + 1) c.self.inside.listed c.swap.new.x h) (sym taken)

@@ -69,7 +69,7 @@ meet_split-requires-clause-marked g c κs within =
     let from : c.from.result ≡ c.self.inside.contacts.list.from = c.from.ensures ∙ ap (λ (l : Pairs). l.from) c.list.ensures.value in
     let stay : StayMarked c.self.inside.shapes.now c.self.inside.step (c.self.inside.contacts.list.from + c.self.inside.drift) c.self.inside.contacts.list.pairs c.renew.new.self =
     marks_renewed c.self.inside.shapes.now c.self.inside.step c.steps_left-left.result (c.self.inside.contacts.list.from + c.self.inside.drift) c.self.inside.contacts.list.pairs c.self.inside.marks c.renew.new.self
-    c.self.inside.bodies c.make.new.self.spheres.centers c.self.invariant.3 (c.steps_left-left.ensures.value ∙ ap (λ n. n + c.self.inside.drift) from) c.self.invariant.0.plain c.self.invariant.0.bodies_are c.make.ensures.centers_are
+    c.self.inside.bodies c.make.new.self.spheres.centers c.self.invariant.0.scene c.self.invariant.3 (c.steps_left-left.ensures.value ∙ ap (λ n. n + c.self.inside.drift) from) c.self.invariant.0.plain c.self.invariant.0.bodies_are c.make.ensures.centers_are
     can.pairs.each c.renew.ensures.room
     (subst (λ (l : Pairs). AreRenewed c.self.inside.shapes.now c.steps_left-left.result c.make.new.self.spheres.centers l.pairs c.self.inside.marks c.renew.new.self) c.list-2.ensures.value c.renew.ensures.right) in
     marks_now c.self.inside.shapes.now c.self.inside.step (c.self.inside.contacts.list.from + c.self.inside.drift) c.self.inside.contacts.list.pairs c.renew.new.self c.self.inside.bodies c.make.new.self.spheres.centers
@@ -123,7 +123,7 @@ invariant_of-self-in-Err-advance_split g c =
     let from : c.from.result ≡ c.self.inside.contacts.list.from = c.from.ensures ∙ ap (λ (l : Pairs). l.from) c.list.ensures.value in
     let stay : StayMarked c.self.inside.shapes.now c.self.inside.step (c.self.inside.contacts.list.from + c.self.inside.drift) c.self.inside.contacts.list.pairs c.renew.new.self =
     marks_renewed c.self.inside.shapes.now c.self.inside.step c.steps_left-left.result (c.self.inside.contacts.list.from + c.self.inside.drift) c.self.inside.contacts.list.pairs c.self.inside.marks c.renew.new.self
-    c.self.inside.bodies c.make.new.self.spheres.centers c.self.invariant.3 (c.steps_left-left.ensures.value ∙ ap (λ n. n + c.self.inside.drift) from) c.self.invariant.0.plain c.self.invariant.0.bodies_are c.make.ensures.centers_are
+    c.self.inside.bodies c.make.new.self.spheres.centers c.self.invariant.0.scene c.self.invariant.3 (c.steps_left-left.ensures.value ∙ ap (λ n. n + c.self.inside.drift) from) c.self.invariant.0.plain c.self.invariant.0.bodies_are c.make.ensures.centers_are
     can.pairs.each c.renew.ensures.room
     (subst (λ (l : Pairs). AreRenewed c.self.inside.shapes.now c.steps_left-left.result c.make.new.self.spheres.centers l.pairs c.self.inside.marks c.renew.new.self) c.list-2.ensures.value c.renew.ensures.right) in (
       c.self.invariant.0,
@@ -181,7 +181,7 @@ invariant_of-self-in-Ok g c =
     let from : c.from.result ≡ c.self.inside.contacts.list.from = c.from.ensures ∙ ap (λ (l : Pairs). l.from) c.list.ensures.value in
     let stay : StayMarked c.self.inside.shapes.now c.self.inside.step (c.self.inside.contacts.list.from + c.self.inside.drift) c.self.inside.contacts.list.pairs c.renew.new.self =
     marks_renewed c.self.inside.shapes.now c.self.inside.step c.steps_left-left.result (c.self.inside.contacts.list.from + c.self.inside.drift) c.self.inside.contacts.list.pairs c.self.inside.marks c.renew.new.self
-    c.self.inside.bodies c.make.new.self.spheres.centers c.self.invariant.3 (c.steps_left-left.ensures.value ∙ ap (λ n. n + c.self.inside.drift) from) c.self.invariant.0.plain c.self.invariant.0.bodies_are c.make.ensures.centers_are
+    c.self.inside.bodies c.make.new.self.spheres.centers c.self.invariant.0.scene c.self.invariant.3 (c.steps_left-left.ensures.value ∙ ap (λ n. n + c.self.inside.drift) from) c.self.invariant.0.plain c.self.invariant.0.bodies_are c.make.ensures.centers_are
     can.pairs.each c.renew.ensures.room
     (subst (λ (l : Pairs). AreRenewed c.self.inside.shapes.now c.steps_left-left.result c.make.new.self.spheres.centers l.pairs c.self.inside.marks c.renew.new.self) c.list-2.ensures.value c.renew.ensures.right) in (
       subst (λ (h : HeldByPlace). IsStepper c.self.inside.shapes.now c.self.inside.drift (c.self.inside.step + 1) c.self.inside.listed c.swap.new.x h) (sym taken)
@@ -240,7 +240,7 @@ invariant_of-self g c =
     let from : c.from.result ≡ c.self.inside.contacts.list.from = c.from.ensures ∙ ap (λ (l : Pairs). l.from) c.list.ensures.value in
     let stay : StayMarked c.self.inside.shapes.now c.self.inside.step (c.self.inside.contacts.list.from + c.self.inside.drift) c.self.inside.contacts.list.pairs c.renew.new.self =
     marks_renewed c.self.inside.shapes.now c.self.inside.step c.steps_left-left.result (c.self.inside.contacts.list.from + c.self.inside.drift) c.self.inside.contacts.list.pairs c.self.inside.marks c.renew.new.self
-    c.self.inside.bodies c.make.new.self.spheres.centers c.self.invariant.3 (c.steps_left-left.ensures.value ∙ ap (λ n. n + c.self.inside.drift) from) c.self.invariant.0.plain c.self.invariant.0.bodies_are c.make.ensures.centers_are
+    c.self.inside.bodies c.make.new.self.spheres.centers c.self.invariant.0.scene c.self.invariant.3 (c.steps_left-left.ensures.value ∙ ap (λ n. n + c.self.inside.drift) from) c.self.invariant.0.plain c.self.invariant.0.bodies_are c.make.ensures.centers_are
     can.pairs.each c.renew.ensures.room
     (subst (λ (l : Pairs). AreRenewed c.self.inside.shapes.now c.steps_left-left.result c.make.new.self.spheres.centers l.pairs c.self.inside.marks c.renew.new.self) c.list-2.ensures.value c.renew.ensures.right) in (
       c.self.invariant.0,
